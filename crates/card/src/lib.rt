@@ -1,0 +1,353 @@
+// What the card is made of, 01: its values in small groups, all but the codes as its face; the fresh card; and the wallet's
+// counters and status as one small value, which create, sign and purge take and hand back.
+ghost use mathlib.Core.Path.{_≡_};
+ghost use mathlib.Core.Bool.{cond};
+ghost use lib.Dec.{eqb, ltb};
+ghost use Prim.Native.Nat.{_+_, _-_};
+ghost use Rattle.card.specs.Values.{created, spent, purged, afterPurge, risen, checkedOnce, validatedOnce, heldKey, heldLast, heldBlock, heldIssuer, fresh, withWallet, withKey, withCounters, withUser, withProtected, withIssuer, withLast};
+
+pub const EMPTY: u8 = 1;
+
+pub const LOADED: u8 = 2;
+
+pub const PURGED: u8 = 3;
+
+pub const SECP256K1: u8 = 1;
+
+pub const ED25519: u8 = 2;
+
+// The length of an image.
+pub const IMAGE_SIZE: usize = 2429;
+
+// The room that a buffer for an image has at least.
+pub const IMAGE_ROOM: usize = 4096;
+
+// The codes: what no answer may tell.
+pub struct Codes {
+    pub pin1: [u8; 32],
+    pub pin2: [u8; 32],
+}
+
+pub struct Fixed {
+    pub cid: [u8; 8],
+    pub cvc: [u8; 3],
+    pub curve: u8,
+    pub max: u32,
+}
+
+pub struct Flags {
+    pub reusable: u8,
+    pub usecvc: u8,
+    pub setpin1: u8,
+    pub setpin2: u8,
+    pub nopurge: u8,
+    pub replay: u8,
+    pub active: u8,
+}
+
+pub struct Wallet {
+    pub status: u8,
+    pub number: u16,
+    pub remaining: u32,
+    pub signed: u32,
+}
+
+// Wallet_PublicKey: the first `size` bytes.
+pub struct Key {
+    pub size: u8,
+    pub bytes: [u8; 65],
+}
+
+pub struct Counters {
+    pub checks: u32,
+    pub validations: u16,
+    pub user: u32,
+    pub protected: u32,
+}
+
+// User_Data, User_ProtectedData, Issuer_Data: the first `size` bytes.
+pub struct Block {
+    pub size: u16,
+    pub bytes: [u8; 512],
+}
+
+pub struct Issuer {
+    pub block: Block,
+    pub signature: [u8; 64],
+    pub counter: u32,
+}
+
+// The last signatures: the first `count`, of 64 bytes each.
+pub struct Last {
+    pub count: u8,
+    pub signatures: [u8; 640],
+}
+
+// All but the codes.
+pub struct Face {
+    pub fixed: Fixed,
+    pub flags: Flags,
+    pub wallet: Wallet,
+    pub key: Key,
+    pub counters: Counters,
+    pub user: Block,
+    pub protected: Block,
+    pub issuer: Issuer,
+    pub last: Last,
+}
+
+pub struct Card {
+    pub face: Face,
+    pub codes: Codes,
+}
+
+impl Wallet {
+    // F8: Loaded, number one more, Remaining is Max.
+    pub fn create(self, max: u32) -> Wallet
+        ensures { λ r. ⌜ r ≡ created max self ⌝ }
+    {
+        Wallet {
+            status: LOADED,
+            number: std::num::wrapping_add_u16(self.number, 1),
+            remaining: max,
+            signed: self.signed,
+        }
+    }
+
+    // FB: Remaining falls by one, Signed_Hashes rises by the number of hashes.
+    pub fn sign(self, hashes: u32) -> Wallet
+        ensures { λ r. ⌜ r ≡ spent hashes self ⌝ }
+    {
+        Wallet {
+            status: self.status,
+            number: self.number,
+            remaining: less_one(self.remaining),
+            signed: std::num::wrapping_add_u32(self.signed, hashes),
+        }
+    }
+
+    // FC: Remaining 0, Empty if reusable, else Purged.
+    pub fn purge(self, reusable: u8) -> Wallet
+        ensures { λ r. ⌜ r ≡ purged reusable self ⌝ }
+    {
+        Wallet {
+            status: after_purge(reusable),
+            number: self.number,
+            remaining: 0,
+            signed: self.signed,
+        }
+    }
+}
+
+fn after_purge(reusable: u8) -> u8
+    ensures { λ r. ⌜ r ≡ afterPurge reusable ⌝ }
+{
+    if reusable == 1 {
+        return EMPTY;
+    }
+    PURGED
+}
+
+fn less_one(n: u32) -> u32
+    ensures { λ r. ⌜ r ≡ n - 1 ⌝ }
+{
+    if n == 0 {
+        return 0;
+    }
+    n - 1
+}
+
+// One more, and the top stays.
+fn one_more(n: u32) -> u32
+    ensures { λ r. ⌜ r ≡ cond (ltb n 4294967295) (n + 1) n ⌝ }
+{
+    if n < 4294967295 {
+        return n + 1;
+    }
+    n
+}
+
+impl Counters {
+    // FB: both user counters, going from 4,294,967,295 to 0.
+    pub fn signed(self) -> Counters
+        ensures { λ r. ⌜ r ≡ risen self ⌝ }
+    {
+        Counters {
+            checks: self.checks,
+            validations: self.validations,
+            user: std::num::wrapping_add_u32(self.user, 1),
+            protected: std::num::wrapping_add_u32(self.protected, 1),
+        }
+    }
+
+    // F9: Check_Wallet_Counter, which stays at its top.
+    pub fn checked(self) -> Counters
+        ensures { λ r. ⌜ r ≡ checkedOnce self ⌝ }
+    {
+        Counters {
+            checks: one_more(self.checks),
+            validations: self.validations,
+            user: self.user,
+            protected: self.protected,
+        }
+    }
+
+    // F4: Card_Validation_Counter; the command's condition keeps it below its top.
+    pub fn validated(self) -> Counters
+        ensures { λ r. ⌜ r ≡ validatedOnce self ⌝ }
+    {
+        Counters {
+            checks: self.checks,
+            validations: std::num::wrapping_add_u16(self.validations, 1),
+            user: self.user,
+            protected: self.protected,
+        }
+    }
+}
+
+impl Key {
+    pub fn held(key: &[u8]) -> Key
+        ensures { λ r. ⌜ r ≡ heldKey (now (key .entry)) ⌝ }
+    {
+        Key {
+            size: (key.len() % 256) as u8,
+            bytes: wire::pad65(key),
+        }
+    }
+}
+
+impl Block {
+    pub fn held(block: &[u8]) -> Block
+        ensures { λ r. ⌜ r ≡ heldBlock (now (block .entry)) ⌝ }
+    {
+        Block {
+            size: (block.len() % 65536) as u16,
+            bytes: wire::pad512(block),
+        }
+    }
+}
+
+impl Issuer {
+    pub fn held(block: &[u8], signature: &[u8], counter: u32) -> Issuer
+        ensures { λ r. ⌜ r ≡ heldIssuer (now (block .entry)) (now (signature .entry)) counter ⌝ }
+    {
+        Issuer {
+            block: Block::held(block),
+            signature: wire::pad64(signature),
+            counter,
+        }
+    }
+}
+
+impl Last {
+    pub fn held(signatures: &[u8]) -> Last
+        ensures { λ r. ⌜ r ≡ heldLast (now (signatures .entry)) ⌝ }
+    {
+        Last {
+            count: (signatures.len() / 64 % 256) as u8,
+            signatures: wire::pad640(signatures),
+        }
+    }
+}
+
+impl Face {
+    pub fn with_wallet(self, wallet: Wallet) -> Face
+        ensures { λ r. ⌜ r ≡ withWallet wallet self ⌝ }
+    {
+        let mut next = self;
+        next.wallet = wallet;
+        next
+    }
+
+    pub fn with_key(self, key: Key) -> Face
+        ensures { λ r. ⌜ r ≡ withKey key self ⌝ }
+    {
+        let mut next = self;
+        next.key = key;
+        next
+    }
+
+    pub fn with_counters(self, counters: Counters) -> Face
+        ensures { λ r. ⌜ r ≡ withCounters counters self ⌝ }
+    {
+        let mut next = self;
+        next.counters = counters;
+        next
+    }
+
+    pub fn with_user(self, user: Block) -> Face
+        ensures { λ r. ⌜ r ≡ withUser user self ⌝ }
+    {
+        let mut next = self;
+        next.user = user;
+        next
+    }
+
+    pub fn with_protected(self, protected: Block) -> Face
+        ensures { λ r. ⌜ r ≡ withProtected protected self ⌝ }
+    {
+        let mut next = self;
+        next.protected = protected;
+        next
+    }
+
+    pub fn with_issuer(self, issuer: Issuer) -> Face
+        ensures { λ r. ⌜ r ≡ withIssuer issuer self ⌝ }
+    {
+        let mut next = self;
+        next.issuer = issuer;
+        next
+    }
+
+    pub fn with_last(self, last: Last) -> Face
+        ensures { λ r. ⌜ r ≡ withLast last self ⌝ }
+    {
+        let mut next = self;
+        next.last = last;
+        next
+    }
+}
+
+impl Card {
+    // A fresh card: Empty, with Signed_Hashes, the wallet number and every counter 0, no last signatures and all data empty.
+    pub fn fresh(fixed: Fixed, flags: Flags, codes: Codes) -> Card
+        ensures { λ r. ⌜ r ≡ fresh fixed flags codes ⌝ }
+    {
+        let none = Block {
+            size: 0,
+            bytes: [0u8; 512],
+        };
+        let face = Face {
+            fixed,
+            flags,
+            wallet: Wallet {
+                status: EMPTY,
+                number: 0,
+                remaining: 0,
+                signed: 0,
+            },
+            key: Key {
+                size: 0,
+                bytes: [0u8; 65],
+            },
+            counters: Counters {
+                checks: 0,
+                validations: 0,
+                user: 0,
+                protected: 0,
+            },
+            user: none,
+            protected: none,
+            issuer: Issuer {
+                block: none,
+                signature: [0u8; 64],
+                counter: 0,
+            },
+            last: Last {
+                count: 0,
+                signatures: [0u8; 640],
+            },
+        };
+        Card { face, codes }
+    }
+}

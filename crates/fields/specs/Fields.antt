@@ -1,0 +1,114 @@
+-- Fields, 01 "Requests and fields": what stands at a position, the run of fields from a position on, and the first field with a tag.
+use Prim.Native.Nat.{ℕ, zero, suc, _+_, _-_, _*_, _≤_}
+use mathlib.Core.List.{List, [], _∷_, _++_}
+use Rattle.wire.specs.Wire.{part, be2, alike, Wrotes, joined}
+use mathlib.Core.Bool.{Bool, true, false, cond}
+use lib.ListN.{length, getD, take, drop}
+use lib.Dec.{ltb, leb, eqb}
+use Rattle.fields.specs.declared.Step.{Step}
+use Rattle.fields.specs.declared.Step.the-variants.{Field, Bad, End}
+use Rattle.fields.specs.declared.Found.{Found}
+use Rattle.fields.specs.declared.Found.the-variants.{At, Absent}
+
+-- tag at `at`, value of n bytes from b: the field, or Bad where the value runs past the end
+unfoldable pub fieldAt : List ℕ → ℕ → ℕ → ℕ → Step
+fieldAt s at b n = cond (leb n (length s - b)) (Field (getD s at 0) b n (b + n)) Bad
+
+unfoldable pub stepAt : List ℕ → ℕ → Step
+stepAt s at =
+    cond (leb (length s) at) End
+    (cond (leb (length s) (at + 1)) Bad
+    (cond (eqb (getD s (at + 1) 0) 255)
+    (cond (leb (length s) (at + 3)) Bad
+    (fieldAt s at (at + 4) (getD s (at + 2) 0 * 256 + getD s (at + 3) 0)))
+    (fieldAt s at (at + 2) (getD s (at + 1) 0))))
+
+-- a field of a payload: its tag, where its value starts and how long that is, and where the next field starts
+pub record Item : Type 0 where
+  pub tag : ℕ
+  pub start : ℕ
+  pub len : ℕ
+  pub next : ℕ
+
+-- the fields from a position on, and how the run ends: at the end of the payload, or where it is malformed
+pub data Run : Type 0 where
+  ended : Run
+  broken : Run
+  one : Item → Run → Run
+
+abbrev pub goOn : Step → (ℕ → Run) → Run
+goOn End k = ended
+goOn Bad k = broken
+goOn (Field t b n x) k = one (record { tag = t; start = b; len = n; next = x }) (k x)
+
+-- the run from a position, of at most as many fields as the first argument says
+unfoldable pub runN : ℕ → List ℕ → ℕ → Run
+runN zero s at = ended
+runN (suc k) s at = goOn (stepAt s at) (runN k s)
+
+-- a payload has fewer fields than bytes, so its length is enough
+unfoldable pub restFrom : List ℕ → ℕ → Run
+restFrom s at = runN (length s) s at
+
+abbrev pub whole : Run → Bool
+whole ended = true
+whole broken = false
+whole (one f r) = whole r
+
+abbrev pub firstIn : ℕ → Run → Found
+firstIn t ended = Absent
+firstIn t broken = Absent
+firstIn t (one f r) = cond (eqb (f .tag) t) (At (f .start) (f .len) (f .next)) (firstIn t r)
+
+-- the field with the tag: whether it is there, its value (nothing where it is absent), whether it is there and holds the code
+abbrev pub found : Found → Bool
+found Absent = false
+found (At b n x) = true
+
+abbrev pub valueOf : List ℕ → Found → List ℕ
+valueOf s (At b n x) = part s b n
+valueOf s Absent = []
+
+abbrev pub holdsAt : List ℕ → Found → List ℕ → Bool
+holdsAt s (At b n x) code = alike (part s b n) code
+holdsAt s Absent code = false
+
+unfoldable pub has : ℕ → List ℕ → Bool
+has t p = found (firstIn t (restFrom p 0))
+
+unfoldable pub val : ℕ → List ℕ → List ℕ
+val t p = valueOf p (firstIn t (restFrom p 0))
+
+unfoldable pub holds : ℕ → List ℕ → List ℕ → Bool
+holds t p code = holdsAt p (firstIn t (restFrom p 0)) code
+
+unfoldable pub wellFormed : List ℕ → Bool
+wellFormed p = whole (restFrom p 0)
+
+-- WRITING. Tag and length: one byte below 255, else FF and two bytes
+unfoldable pub headOf : ℕ → ℕ → List ℕ
+headOf t n = t ∷ cond (ltb n 255) (n ∷ []) (255 ∷ be2 n)
+
+-- a field; a value of 65,536 bytes or more has none
+unfoldable pub tlv : ℕ → List ℕ → List ℕ
+tlv t v = cond (leb (length v) 65535) (headOf t (length v) ++ v) []
+
+pub record Tagged : Type 0 where
+  pub tag : ℕ
+  pub value : List ℕ
+
+abbrev pub fld : ℕ → List ℕ → Tagged
+fld t v = record { tag = t; value = v }
+
+-- the bytes of each field, and of all one after the other
+unfoldable pub each : List Tagged → List (List ℕ)
+each [] = []
+each (f ∷ fs) = tlv (f .tag) (f .value) ∷ each fs
+
+unfoldable pub written : List Tagged → List ℕ
+written fs = joined (each fs)
+
+-- THE PROMISE of a writer of fields: fs from `at` of d on gave d′, each where there was room, and r is the place after them; they have at most n bytes
+pub record Told (n : ℕ) (d : List ℕ) (at : ℕ) (fs : List Tagged) (d′ : List ℕ) (r : ℕ) : Type 0 where
+  pub list : Wrotes d at (each fs) d′ r
+  pub small : length (written fs) ≤ n

@@ -1,0 +1,235 @@
+// Fields, 01 "Requests and fields": tag, length, value. The walk over a payload, the lookup, the writer; all total.
+use wire::Check;
+ghost use mathlib.Core.Path.{_≡_};
+ghost use Prim.Native.Nat.{_≤_, _<_};
+ghost use lib.ListN.{length};
+ghost use Rattle.wire.specs.Wire.{verdict, part, Wrote, be1, be2, be4};
+ghost use Rattle.fields.specs.Fields.{stepAt, fieldAt, restFrom, whole, firstIn, has, val, holds, wellFormed, headOf, tlv};
+
+// What stands at a position of a payload.
+pub enum Step {
+    Field {
+        tag: u8,
+        start: usize,
+        len: usize,
+        next: usize,
+    },
+    Bad,
+    End,
+}
+
+// Where a tag stands.
+pub enum Found {
+    At {
+        start: usize,
+        len: usize,
+        next: usize,
+    },
+    Absent,
+}
+
+// The field whose tag stands at `at` and whose value starts at b and has n bytes.
+fn field_at(s: &[u8], at: usize, b: usize, n: usize) -> Step
+    requires { ⌜ (at < length (now s)) × (b ≤ length (now s)) ⌝ }
+    ensures { λ r. ⌜ r ≡ fieldAt (now (s .entry)) at b n ⌝ }
+{
+    if n <= s.len() - b {
+        Step::Field {
+            tag: s[at],
+            start: b,
+            len: n,
+            next: b + n,
+        }
+    } else {
+        Step::Bad
+    }
+}
+
+pub fn step_at(s: &[u8], at: usize) -> Step
+    ensures { λ r. ⌜ r ≡ stepAt (now (s .entry)) at ⌝ }
+{
+    if s.len() <= at {
+        return Step::End;
+    }
+    let l = at + 1;
+    if s.len() <= l {
+        return Step::Bad;
+    }
+    let n = s[l] as usize;
+    if n != 255 {
+        return field_at(s, at, at + 2, n);
+    }
+    let low = at + 3;
+    if s.len() <= low {
+        return Step::Bad;
+    }
+    let m = (s[at + 2] as usize) * 256 + (s[low] as usize);
+    field_at(s, at, at + 4, m)
+}
+
+// Whether the payload ends at a field's end.
+fn ends_well(s: &[u8]) -> bool
+    ensures { λ r. ⌜ r ≡ whole (restFrom (now (s .entry)) 0) ⌝ }
+{
+    let mut at: usize = 0;
+    loop {
+        match step_at(s, at) {
+            Step::Field {
+                tag: _,
+                start: _,
+                len: _,
+                next,
+            } => {
+                at = next;
+            }
+            Step::Bad => {
+                return false;
+            }
+            Step::End => {
+                return true;
+            }
+        }
+    }
+}
+
+// The first field with the tag, from a position on.
+pub fn find_from(s: &[u8], from: usize, tag: u8) -> Found
+    ensures { λ r. ⌜ r ≡ firstIn tag (restFrom (now (s .entry)) from) ⌝ }
+{
+    let mut at = from;
+    loop {
+        match step_at(s, at) {
+            Step::Field {
+                tag: t,
+                start,
+                len,
+                next,
+            } => {
+                if t == tag {
+                    return Found::At { start, len, next };
+                }
+                at = next;
+            }
+            Step::Bad => {
+                return Found::Absent;
+            }
+            Step::End => {
+                return Found::Absent;
+            }
+        }
+    }
+}
+
+// Check 5: whether the payload ends at a field's end.
+pub fn well_formed(p: &[u8]) -> Check
+    ensures { λ r. ⌜ r ≡ verdict (wellFormed (now (p .entry))) ⌝ }
+{
+    wire::checked(ends_well(p))
+}
+
+// Whether the field is there.
+pub fn has(p: &[u8], tag: u8) -> bool
+    ensures { λ r. ⌜ r ≡ has tag (now (p .entry)) ⌝ }
+{
+    let f = find_from(p, 0, tag);
+    let Found::At {
+        start: _,
+        len: _,
+        next: _,
+    } = f
+    else {
+        return false;
+    };
+    true
+}
+
+// The value of the field, as a part of the payload; nothing where it is absent.
+pub fn value(p: &[u8], tag: u8) -> &[u8]
+    ensures { λ r. ⌜ now r ≡ val tag (now (p .entry)) ⌝ }
+{
+    let f = find_from(p, 0, tag);
+    let Found::At {
+        start,
+        len,
+        next: _,
+    } = f
+    else {
+        return &p[..0];
+    };
+    wire::part(p, start, len)
+}
+
+// Whether the field is there and holds the code.
+pub fn holds(p: &[u8], tag: u8, code: &[u8]) -> bool
+    ensures { λ r. ⌜ r ≡ holds tag (now (p .entry)) (now (code .entry)) ⌝ }
+{
+    let f = find_from(p, 0, tag);
+    let Found::At {
+        start,
+        len,
+        next: _,
+    } = f
+    else {
+        return false;
+    };
+    wire::equal(wire::part(p, start, len), code)
+}
+
+// Tag and length.
+fn put_head(out: &mut [u8], at: usize, tag: u8, n: u16) -> usize
+    ensures { λ r. ⌜ Wrote (now (out .entry)) at (headOf tag n) (now (out .exit)) r ⌝ }
+{
+    if n < 255 {
+        let b = [tag, n as u8];
+        return wire::put_bytes(out, at, &b);
+    }
+    let b = [tag, 255, (n / 256) as u8, (n % 256) as u8];
+    wire::put_bytes(out, at, &b)
+}
+
+fn head_size(n: usize) -> usize
+    ensures { λ r. ⌜ r ≡ length (headOf 0 n) ⌝ }
+{
+    if n < 255 { 2 } else { 4 }
+}
+
+// A field: tag, length in the short form where it fits, value.
+pub fn put_field(out: &mut [u8], at: usize, tag: u8, v: &[u8]) -> usize
+    ensures { λ r. ⌜ Wrote (now (out .entry)) at (tlv tag (now (v .entry))) (now (out .exit)) r ⌝ }
+{
+    let n = v.len();
+    if 65535 < n {
+        return at;
+    }
+    if wire::has_room(out.len(), at, head_size(n) + n) {
+        let b = put_head(out, at, tag, n as u16);
+        return wire::put_bytes(out, b, v);
+    }
+    at
+}
+
+pub fn put_byte(out: &mut [u8], at: usize, tag: u8, x: u8) -> usize
+    ensures { λ r. ⌜ Wrote (now (out .entry)) at (tlv tag (be1 x)) (now (out .exit)) r ⌝ }
+{
+    let b = [x];
+    put_field(out, at, tag, &b)
+}
+
+pub fn put_short(out: &mut [u8], at: usize, tag: u8, x: u16) -> usize
+    ensures { λ r. ⌜ Wrote (now (out .entry)) at (tlv tag (be2 x)) (now (out .exit)) r ⌝ }
+{
+    let b = [(x / 256) as u8, (x % 256) as u8];
+    put_field(out, at, tag, &b)
+}
+
+pub fn put_number(out: &mut [u8], at: usize, tag: u8, x: u32) -> usize
+    ensures { λ r. ⌜ Wrote (now (out .entry)) at (tlv tag (be4 x)) (now (out .exit)) r ⌝ }
+{
+    let b = [
+        (x / 16777216) as u8,
+        (x / 65536 % 256) as u8,
+        (x / 256 % 256) as u8,
+        (x % 256) as u8,
+    ];
+    put_field(out, at, tag, &b)
+}

@@ -1,0 +1,231 @@
+-- What the callers of `wire` cite: outcomes of checks, runs of writes, comparison. Assumes nothing.
+use Prim.Native.Nat.{ℕ, zero, suc, _+_, _-_, _≤_, _<_}
+use native.Mathlib.Omega.{arith}
+use native.Mathlib.Numerals.{add-one}
+use native.Mathlib.Nat.{add-zero}
+use mathlib.Core.Path.{_≡_, refl, sym, ap, ap₂, _∙_, subst}
+use mathlib.Core.List.{List, [], _∷_, _++_, append-assoc, append-nil}
+use mathlib.Core.Bool.{Bool, true, false, cond, _&&_, _||_, not}
+use lib.ListN.{length, take, drop, getD, replicate, length-append, length-take, length-drop, length-replicate, take-append-drop, drop-of-length-le}
+use lib.Seq.{take-at, drop-at, drop-append-add, drop-drop, drop-cons, drop-nil, paste, take-length}
+use lib.Dec.{leb, eqb}
+use borrow.Author.Tests.{le-leb, lt-leb, leb-true, leb-false, eq-eqb, ne-eqb}
+use Rattle.wire.specs.declared.Check.{Check}
+use Rattle.wire.specs.declared.Check.the-variants.{Fine, Failed}
+use Rattle.wire.specs.Wire.{verdict, pick, part, put, room, fit, placed, Wrote, Ran, Runs, Page, page, Wrotes, joined, pad, alike, allZero}
+
+-- CHECKS
+pub by-cases : {A : Type 0} (P : A → Type 0) (b : Bool) {x y : A} → (b ≡ true → P x) → (b ≡ false → P y) → P (cond b x y)
+by-cases P true f g = f refl
+by-cases P false f g = g refl
+
+pub fine : (b : Bool) {r : Check} → r ≡ Fine → r ≡ verdict b → b ≡ true
+unfolding verdict
+fine true p q = refl
+fine false p q = cc
+
+pub failed : (b : Bool) {r : Check} → r ≡ Failed → r ≡ verdict b → b ≡ false
+unfolding verdict
+failed true p q = cc
+failed false p q = refl
+
+-- WRITES
+pub has-room : (size at n : ℕ) → at + n ≤ size → room size at n ≡ true
+unfolding room
+has-room size at n h = le-leb _ _ h
+
+pub no-room : (size at n : ℕ) → size < at + n → room size at n ≡ false
+unfolding room
+no-room size at n h = lt-leb _ _ h
+
+pub room-true : (size at n : ℕ) → room size at n ≡ true → at + n ≤ size
+unfolding room
+room-true size at n e = leb-true _ _ e
+
+pub room-false : (size at n : ℕ) → room size at n ≡ false → size < at + n
+unfolding room
+room-false size at n e = leb-false _ _ e
+
+pub length-put : (d : List ℕ) (at : ℕ) (v : List ℕ) → at + length v ≤ length d → length (put d at v) ≡ length d
+unfolding put
+length-put d at v h = simp (length-append, length-take, length-drop) (omega arith)
+
+-- a write right after another is one write of both
+pub put-put : (d : List ℕ) (at : ℕ) (v w : List ℕ) → at + length v + length w ≤ length d → put (put d at v) (at + length v) w ≡ put d at (v ++ w)
+unfolding put
+put-put d at v w h =
+    let e : length (take at d ++ v) ≡ at + length v = simp (length-append, length-take) (omega arith) in
+    let e₂ : at + length v + length w ≡ at + length (v ++ w) = simp length-append (omega arith) in
+    ap₂ (λ x y. x ++ w ++ y)
+    (take-at (take at d ++ v) (drop (at + length v) d) (at + length v) e)
+    (ap (λ n. drop n (take at d ++ v ++ drop (at + length v) d)) (ap (λ n. n + length w) (sym e))
+    ∙ drop-append-add (take at d ++ v) (drop (at + length v) d) (length w)
+    ∙ drop-drop (length w) (at + length v) d
+    ∙ ap (λ n. drop n d) e₂)
+    ∙ simp append-assoc
+
+pub pasted : (d : List ℕ) (at : ℕ) (v : List ℕ) → paste d at v (length v) ≡ put d at v
+unfolding put
+pasted d at v = rw take-length
+
+-- THE LAW: where there is room, a write is the plain one
+pub runs : {d : List ℕ} {at : ℕ} {v d′ : List ℕ} {r : ℕ} → Wrote d at v d′ r → Runs d at v d′ r
+unfolding fit placed
+runs {d} {at} {v} x h =
+    let e = has-room (length d) at (length v) h in
+    record { bytes = x .bytes ∙ rw e; next = x .next ∙ rw e }
+
+-- one run after another, with no room to show
+pub then : {d : List ℕ} {at : ℕ} {v d′ : List ℕ} {r : ℕ} {w d″ : List ℕ} {r′ : ℕ} → Runs d at v d′ r → Runs d′ r w d″ r′ → Runs d at (v ++ w) d″ r′
+then {d} {at} {v} {d′} {r} {w} {d″} {r′} f g h =
+    let l = length-append v w in
+    let x = f (omega arith) in
+    let k : length d′ ≡ length d = ap length (x .bytes) ∙ length-put d at v (omega arith) in
+    let y = g (omega (arith, x .next, k)) in
+    record {
+      bytes = y .bytes ∙ ap₂ (λ e n. put e n w) (x .bytes) (x .next) ∙ put-put d at v w (omega arith);
+      next = omega (arith, x .next, y .next);
+    }
+
+pub put-nil : (d : List ℕ) (at : ℕ) → d ≡ put d at []
+unfolding put
+put-nil d at = sym (ap (λ n. take at d ++ [] ++ drop n d) (add-zero at) ∙ ap (λ l. l ++ drop at d) (append-nil (take at d)) ∙ take-append-drop at d)
+
+-- nothing written
+pub nothing : {d : List ℕ} {at : ℕ} → Runs d at [] d at
+nothing {d} {at} h = record { bytes = put-nil d at; next = omega arith }
+
+-- a run that is said in other words
+pub reads : {d : List ℕ} {at : ℕ} {v d′ : List ℕ} {r : ℕ} {w : List ℕ} → v ≡ w → Runs d at v d′ r → Runs d at w d′ r
+reads {d} {at} {v} {d′} {r} e f = subst (λ (x : List ℕ). Runs d at x d′ r) e f
+
+-- a whole run that the code tested for room first
+pub tested : {d : List ℕ} {at : ℕ} {v d′ : List ℕ} {r : ℕ} → at + length v ≤ length d → Runs d at v d′ r → Wrote d at v d′ r
+unfolding fit placed
+tested {d} {at} {v} h f =
+    let e = has-room (length d) at (length v) h in
+    record { bytes = f h .bytes ∙ sym (rw e); next = f h .next ∙ sym (rw e) }
+
+pub refused : {d : List ℕ} {at : ℕ} {v : List ℕ} → length d < at + length v → Wrote d at v d at
+unfolding fit placed
+refused {d} {at} {v} h = let e = no-room (length d) at (length v) h in record { bytes = sym (rw e); next = sym (rw e) }
+
+-- SEVERAL WRITES
+pub wrote-none : {d : List ℕ} {at : ℕ} → Wrotes d at [] d at
+unfolding page
+wrote-none = record { bytes = refl; next = refl }
+
+pub wrote-more : {d : List ℕ} {at : ℕ} {v d′ : List ℕ} {r : ℕ} {vs : List (List ℕ)} {d″ : List ℕ} {r′ : ℕ} → Wrote d at v d′ r → Wrotes d′ r vs d″ r′ → Wrotes d at (v ∷ vs) d″ r′
+unfolding page
+wrote-more {vs = vs} x y =
+    record {
+      bytes = y .bytes ∙ ap₂ (λ e n. page e n vs .bytes) (x .bytes) (x .next);
+      next = y .next ∙ ap₂ (λ e n. page e n vs .at) (x .bytes) (x .next);
+    }
+
+pub wrote-one : {d : List ℕ} {at : ℕ} {v d′ : List ℕ} {r : ℕ} → Wrote d at v d′ r → Wrotes d at (v ∷ []) d′ r
+wrote-one x = wrote-more x wrote-none
+
+page-plain : (d : List ℕ) (at : ℕ) (vs : List (List ℕ)) → Runs d at (joined vs) (page d at vs .bytes) (page d at vs .at)
+unfolding page joined
+page-plain d at [] = nothing
+page-plain d at (v ∷ vs) = then (runs {v = v} (record { bytes = refl; next = refl })) (page-plain (fit d at v) (placed d at v) vs)
+
+-- THE LAW again: where there is room for all, they are one plain write
+pub all-run : {d : List ℕ} {at : ℕ} {vs : List (List ℕ)} {d′ : List ℕ} {r : ℕ} → Wrotes d at vs d′ r → Runs d at (joined vs) d′ r
+all-run {d} {at} {vs} x h =
+    let y = page-plain d at vs h in
+    record { bytes = x .bytes ∙ y .bytes; next = x .next ∙ y .next }
+
+-- what a run from the front leaves
+pub front : {d v d′ : List ℕ} {r : ℕ} → Runs d 0 v d′ r → length v ≤ length d → (d′ ≡ v ++ drop (length v) d) × (r ≡ length v)
+unfolding put
+front {d} {v} f h =
+    let x = f (omega arith) in
+    (x .bytes ∙ (let z : 0 + length v ≡ length v = omega arith in rw z), omega (arith, x .next))
+
+-- PADDING
+pub drop-zeros : (m n a : ℕ) → drop n (replicate m a) ≡ replicate (m - n) a
+drop-zeros zero n a = drop-nil n ∙ (let e : 0 ≡ 0 - n = omega arith in ap (λ (k : ℕ). replicate k a) e)
+drop-zeros (suc m) zero a = let e : suc m ≡ suc m - 0 = omega arith in ap (λ (k : ℕ). replicate k a) e
+drop-zeros (suc m) (suc n) a = drop-zeros m n a ∙ (let e : m - n ≡ suc m - suc n = omega arith in ap (λ (k : ℕ). replicate k a) e)
+
+pub padded : (n : ℕ) (x : List ℕ) → length x ≤ n → pad n x ≡ x ++ replicate (n - length x) 0
+unfolding fit put
+padded n x h =
+    let z0 : List ℕ = replicate n 0 in let l : length z0 ≡ n = length-replicate n 0 in
+    let e = has-room (length z0) 0 (length x) (omega arith) in
+    let z : 0 + length x ≡ length x = omega arith in
+    rw (e, z, drop-zeros n (length x) 0)
+
+-- PARTS
+pub length-part : (s : List ℕ) (at n : ℕ) → at + n ≤ length s → length (part s at n) ≡ n
+unfolding part
+length-part s at n h =
+    let h₁ : at ≤ length s = omega arith in
+    let h₂ : n ≤ length s - at = omega arith in
+    rw (le-leb _ _ h₁, le-leb _ _ h₂) (simp (length-take, length-drop) (omega arith))
+
+pub part-plain : (s : List ℕ) (at n : ℕ) → at + n ≤ length s → part s at n ≡ take n (drop at s)
+unfolding part
+part-plain s at n h =
+    let h₁ : at ≤ length s = omega arith in
+    let h₂ : n ≤ length s - at = omega arith in
+    rw (le-leb _ _ h₁, le-leb _ _ h₂)
+
+-- COMPARISON
+and-false : (t : Bool) {u : Bool} → u ≡ false → (t && u) ≡ false
+and-false true e = e
+and-false false e = refl
+
+pub other-length : (a b : List ℕ) → (length a ≡ length b → ⊥) → alike a b ≡ false
+unfolding alike
+other-length [] [] h = absurd (h refl)
+other-length [] (y ∷ ys) h = refl
+other-length (x ∷ xs) [] h = refl
+other-length (x ∷ xs) (y ∷ ys) h = and-false (eqb x y) (other-length xs ys (λ e. h (ap suc e)))
+
+pub alike-step : (a b : List ℕ) (i : ℕ) → i < length a → i < length b → alike (drop i a) (drop i b) ≡ eqb (getD a i 0) (getD b i 0) && alike (drop (i + 1) a) (drop (i + 1) b)
+unfolding alike
+alike-step a b i h k = rw (add-one, drop-cons a i 0 h, drop-cons b i 0 k)
+
+pub alike-end : (a b : List ℕ) (i : ℕ) → length a ≤ i → length b ≤ i → alike (drop i a) (drop i b) ≡ true
+unfolding alike
+alike-end a b i h k = rw (drop-of-length-le a h, drop-of-length-le b k)
+
+module _ (s : List ℕ) (i : ℕ) where
+  pub stop : i < length s → (getD s i 0 ≡ 0 → ⊥) → allZero (drop i s) ≡ false
+  unfolding allZero
+  stop h k = rw (drop-cons s i 0 h, ne-eqb _ _ k)
+
+  pub go : i < length s → getD s i 0 ≡ 0 → allZero (drop i s) ≡ allZero (drop (i + 1) s)
+  unfolding allZero
+  go h k = rw (add-one, drop-cons s i 0 h, eq-eqb _ _ k)
+
+  pub end : length s ≤ i → allZero (drop i s) ≡ true
+  unfolding allZero
+  end h = rw (drop-of-length-le s h)
+
+-- a run that fills all of d
+pub filled : {d v d′ : List ℕ} {r : ℕ} → Runs d 0 v d′ r → length v ≡ length d → d′ ≡ v
+filled {d} {v} f e = let h : length v ≤ length d = omega arith in let k : length d ≤ length v = omega arith in front f h .0 ∙ rw (drop-of-length-le d k, append-nil v)
+
+pub part-small : (s : List ℕ) (at n : ℕ) → length (part s at n) ≤ length s
+unfolding part
+part-small s at n =
+    by-cases (λ (l : List ℕ). length l ≤ length s) (leb at (length s)) {x = cond (leb n (length s - at)) (take n (drop at s)) []} {y = []}
+    (λ e. by-cases (λ (l : List ℕ). length l ≤ length s) (leb n (length s - at)) {x = take n (drop at s)} {y = []} (λ f. simp (length-take, length-drop) (omega arith)) (λ f. omega arith))
+    (λ e. omega arith)
+
+pub both-true : (a b : Bool) → (a && b) ≡ true → (a ≡ true) × (b ≡ true)
+both-true true b e = (refl, e)
+both-true false b e = (e, cc)
+
+pub part-none : (s : List ℕ) (at : ℕ) → part s at 0 ≡ []
+unfolding part
+part-none s at = go (leb at (length s)) (leb 0 (length s - at))
+  where
+    go : (a b : Bool) → cond a (cond b (take 0 (drop at s)) []) [] ≡ []
+    go true true = refl
+    go true false = refl
+    go false b = refl

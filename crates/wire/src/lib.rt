@@ -1,0 +1,338 @@
+// Bytes: reads and writes on slices, all total. A write without room changes nothing.
+ghost use mathlib.Core.Path.{_≡_};
+ghost use mathlib.Core.Bool.{_&&_, _||_, not};
+ghost use mathlib.Core.List.{_∷_, []};
+ghost use Prim.Native.Nat.{_+_, _≤_, _<_};
+ghost use lib.ListN.{length, getD, drop, replicate};
+ghost use lib.Dec.{eqb};
+ghost use Rattle.wire.specs.Wire.{verdict, part, put, room, Wrote, pad, grab, num16, num32, be1, be2, be4, alike, allZero};
+
+// The outcome of a check.
+pub enum Check {
+    Fine,
+    Failed,
+}
+
+pub fn checked(ok: bool) -> Check
+    ensures { λ r. ⌜ r ≡ verdict ok ⌝ }
+{
+    if ok {
+        return Check::Fine;
+    }
+    Check::Failed
+}
+
+pub fn both(a: bool, b: bool) -> bool
+    ensures { λ r. ⌜ r ≡ (a && b) ⌝ }
+{
+    if a { b } else { false }
+}
+
+pub fn either(a: bool, b: bool) -> bool
+    ensures { λ r. ⌜ r ≡ (a || b) ⌝ }
+{
+    if a { true } else { b }
+}
+
+pub fn unless(a: bool) -> bool
+    ensures { λ r. ⌜ r ≡ not a ⌝ }
+{
+    if a { false } else { true }
+}
+
+pub fn wide(x: u8) -> u32
+    ensures { λ r. ⌜ (r ≡ x) × (r < 256) ⌝ }
+{
+    x as u32
+}
+
+// The byte at `at`, 0 past the end.
+pub fn get8(s: &[u8], at: u32) -> u8
+    ensures { λ r. ⌜ r ≡ getD (now (s .entry)) at 0 ⌝ }
+{
+    let i = at as usize;
+    if i < s.len() { s[i] } else { 0 }
+}
+
+pub fn get16(s: &[u8], at: u16) -> u16
+    ensures { λ r. ⌜ r ≡ num16 (now (s .entry)) at ⌝ }
+{
+    let i = at as u32;
+    (wide(get8(s, i)) * 256 + wide(get8(s, i + 1))) as u16
+}
+
+pub fn get32(s: &[u8], at: u16) -> u32
+    ensures { λ r. ⌜ r ≡ num32 (now (s .entry)) at ⌝ }
+{
+    let i = at as u32;
+    let a = wide(get8(s, i));
+    let b = wide(get8(s, i + 1));
+    let c = wide(get8(s, i + 2));
+    a * 16777216 + b * 65536 + c * 256 + wide(get8(s, i + 3))
+}
+
+// The len bytes from start, as a part of the caller's slice; nothing where they run past the end.
+pub fn part(s: &[u8], start: usize, len: usize) -> &[u8]
+    ensures { λ r. ⌜ now r ≡ part (now (s .entry)) start len ⌝ }
+{
+    if start <= s.len() {
+        if len <= s.len() - start {
+            &s[start..start + len]
+        } else {
+            &s[..0]
+        }
+    } else {
+        &s[..0]
+    }
+}
+
+fn copy(out: &mut [u8], at: usize, v: &[u8]) -> usize
+    requires { ⌜ at + length (now v) ≤ length (now out) ⌝ }
+    ensures { λ r. ⌜ (now (out .exit) ≡ put (now (out .entry)) at (now (v .entry))) × (r ≡ at + length (now (v .entry))) ⌝ }
+{
+    let mut i = 0;
+    while i < v.len() {
+        out[at + i] = v[i];
+        i += 1;
+    }
+    at + i
+}
+
+pub fn has_room(size: usize, at: usize, n: usize) -> bool
+    ensures { λ r. ⌜ r ≡ room size at n ⌝ }
+{
+    if at <= size {
+        return n <= size - at;
+    }
+    false
+}
+
+// Copies v to the place `at`, and returns the place after it.
+pub fn put_bytes(out: &mut [u8], at: usize, v: &[u8]) -> usize
+    ensures { λ r. ⌜ Wrote (now (out .entry)) at (now (v .entry)) (now (out .exit)) r ⌝ }
+{
+    if has_room(out.len(), at, v.len()) {
+        return copy(out, at, v);
+    }
+    at
+}
+
+fn wipe(out: &mut [u8], at: usize, n: usize) -> usize
+    requires { ⌜ at + n ≤ length (now out) ⌝ }
+    ensures { λ r. ⌜ (now (out .exit) ≡ put (now (out .entry)) at (replicate n 0)) × (r ≡ at + n) ⌝ }
+{
+    let mut i = 0;
+    while i < n {
+        out[at + i] = 0;
+        i += 1;
+    }
+    at + i
+}
+
+// Clears n bytes from the place `at`, and returns the place after them.
+pub fn clear(out: &mut [u8], at: usize, n: usize) -> usize
+    ensures { λ r. ⌜ Wrote (now (out .entry)) at (replicate n 0) (now (out .exit)) r ⌝ }
+{
+    if has_room(out.len(), at, n) {
+        return wipe(out, at, n);
+    }
+    at
+}
+
+pub fn put8(out: &mut [u8], at: usize, x: u8) -> usize
+    ensures { λ r. ⌜ Wrote (now (out .entry)) at (be1 x) (now (out .exit)) r ⌝ }
+{
+    let b = [x];
+    put_bytes(out, at, &b)
+}
+
+pub fn put16(out: &mut [u8], at: usize, x: u16) -> usize
+    ensures { λ r. ⌜ Wrote (now (out .entry)) at (be2 x) (now (out .exit)) r ⌝ }
+{
+    let b = [(x / 256) as u8, (x % 256) as u8];
+    put_bytes(out, at, &b)
+}
+
+pub fn put32(out: &mut [u8], at: usize, x: u32) -> usize
+    ensures { λ r. ⌜ Wrote (now (out .entry)) at (be4 x) (now (out .exit)) r ⌝ }
+{
+    let b = [
+        (x / 16777216) as u8,
+        (x / 65536 % 256) as u8,
+        (x / 256 % 256) as u8,
+        (x % 256) as u8,
+    ];
+    put_bytes(out, at, &b)
+}
+
+pub fn equal(a: &[u8], b: &[u8]) -> bool
+    ensures { λ r. ⌜ r ≡ alike (now (a .entry)) (now (b .entry)) ⌝ }
+{
+    if a.len() != b.len() {
+        return false;
+    }
+    let mut i = 0;
+    while i < a.len() {
+        if a[i] != b[i] {
+            return false;
+        }
+        i += 1;
+    }
+    true
+}
+
+// Whether every byte of s from `at` on is zero: unused room.
+pub fn zero_from(s: &[u8], at: usize) -> bool
+    ensures { λ r. ⌜ r ≡ allZero (drop at (now (s .entry))) ⌝ }
+{
+    let mut i = at;
+    while i < s.len() {
+        if s[i] != 0 {
+            return false;
+        }
+        i += 1;
+    }
+    true
+}
+
+// Arrays by value, three functions for each length.
+
+pub fn take3(s: &[u8], at: usize) -> [u8; 3]
+    ensures { λ r. ⌜ (r ≡ grab 3 at (now (s .entry))) × (length r ≡ 3) ⌝ }
+{
+    pad3(part(s, at, 3))
+}
+
+pub fn pad3(x: &[u8]) -> [u8; 3]
+    ensures { λ r. ⌜ (r ≡ pad 3 (now (x .entry))) × (length r ≡ 3) ⌝ }
+{
+    let mut a = [0u8; 3];
+    put_bytes(&mut a, 0, x);
+    a
+}
+
+pub fn give3(out: &mut [u8], at: usize, a: [u8; 3]) -> usize
+    ensures { λ r. ⌜ (Wrote (now (out .entry)) at a (now (out .exit)) r) × (length a ≡ 3) ⌝ }
+{
+    put_bytes(out, at, &a)
+}
+
+pub fn take8(s: &[u8], at: usize) -> [u8; 8]
+    ensures { λ r. ⌜ (r ≡ grab 8 at (now (s .entry))) × (length r ≡ 8) ⌝ }
+{
+    pad8(part(s, at, 8))
+}
+
+pub fn pad8(x: &[u8]) -> [u8; 8]
+    ensures { λ r. ⌜ (r ≡ pad 8 (now (x .entry))) × (length r ≡ 8) ⌝ }
+{
+    let mut a = [0u8; 8];
+    put_bytes(&mut a, 0, x);
+    a
+}
+
+pub fn give8(out: &mut [u8], at: usize, a: [u8; 8]) -> usize
+    ensures { λ r. ⌜ (Wrote (now (out .entry)) at a (now (out .exit)) r) × (length a ≡ 8) ⌝ }
+{
+    put_bytes(out, at, &a)
+}
+
+pub fn take32(s: &[u8], at: usize) -> [u8; 32]
+    ensures { λ r. ⌜ (r ≡ grab 32 at (now (s .entry))) × (length r ≡ 32) ⌝ }
+{
+    pad32(part(s, at, 32))
+}
+
+pub fn pad32(x: &[u8]) -> [u8; 32]
+    ensures { λ r. ⌜ (r ≡ pad 32 (now (x .entry))) × (length r ≡ 32) ⌝ }
+{
+    let mut a = [0u8; 32];
+    put_bytes(&mut a, 0, x);
+    a
+}
+
+pub fn give32(out: &mut [u8], at: usize, a: [u8; 32]) -> usize
+    ensures { λ r. ⌜ (Wrote (now (out .entry)) at a (now (out .exit)) r) × (length a ≡ 32) ⌝ }
+{
+    put_bytes(out, at, &a)
+}
+
+pub fn take64(s: &[u8], at: usize) -> [u8; 64]
+    ensures { λ r. ⌜ (r ≡ grab 64 at (now (s .entry))) × (length r ≡ 64) ⌝ }
+{
+    pad64(part(s, at, 64))
+}
+
+pub fn pad64(x: &[u8]) -> [u8; 64]
+    ensures { λ r. ⌜ (r ≡ pad 64 (now (x .entry))) × (length r ≡ 64) ⌝ }
+{
+    let mut a = [0u8; 64];
+    put_bytes(&mut a, 0, x);
+    a
+}
+
+pub fn give64(out: &mut [u8], at: usize, a: [u8; 64]) -> usize
+    ensures { λ r. ⌜ (Wrote (now (out .entry)) at a (now (out .exit)) r) × (length a ≡ 64) ⌝ }
+{
+    put_bytes(out, at, &a)
+}
+
+pub fn take65(s: &[u8], at: usize) -> [u8; 65]
+    ensures { λ r. ⌜ (r ≡ grab 65 at (now (s .entry))) × (length r ≡ 65) ⌝ }
+{
+    pad65(part(s, at, 65))
+}
+
+pub fn pad65(x: &[u8]) -> [u8; 65]
+    ensures { λ r. ⌜ (r ≡ pad 65 (now (x .entry))) × (length r ≡ 65) ⌝ }
+{
+    let mut a = [0u8; 65];
+    put_bytes(&mut a, 0, x);
+    a
+}
+
+pub fn give65(out: &mut [u8], at: usize, a: [u8; 65]) -> usize
+    ensures { λ r. ⌜ (Wrote (now (out .entry)) at a (now (out .exit)) r) × (length a ≡ 65) ⌝ }
+{
+    put_bytes(out, at, &a)
+}
+
+pub fn take512(s: &[u8], at: usize) -> [u8; 512]
+    ensures { λ r. ⌜ (r ≡ grab 512 at (now (s .entry))) × (length r ≡ 512) ⌝ }
+{
+    pad512(part(s, at, 512))
+}
+
+pub fn pad512(x: &[u8]) -> [u8; 512]
+    ensures { λ r. ⌜ (r ≡ pad 512 (now (x .entry))) × (length r ≡ 512) ⌝ }
+{
+    let mut a = [0u8; 512];
+    put_bytes(&mut a, 0, x);
+    a
+}
+
+pub fn give512(out: &mut [u8], at: usize, a: [u8; 512]) -> usize
+    ensures { λ r. ⌜ (Wrote (now (out .entry)) at a (now (out .exit)) r) × (length a ≡ 512) ⌝ }
+{
+    put_bytes(out, at, &a)
+}
+
+pub fn take640(s: &[u8], at: usize) -> [u8; 640]
+    ensures { λ r. ⌜ (r ≡ grab 640 at (now (s .entry))) × (length r ≡ 640) ⌝ }
+{
+    pad640(part(s, at, 640))
+}
+
+pub fn pad640(x: &[u8]) -> [u8; 640]
+    ensures { λ r. ⌜ (r ≡ pad 640 (now (x .entry))) × (length r ≡ 640) ⌝ }
+{
+    let mut a = [0u8; 640];
+    put_bytes(&mut a, 0, x);
+    a
+}
+
+pub fn give640(out: &mut [u8], at: usize, a: [u8; 640]) -> usize
+    ensures { λ r. ⌜ (Wrote (now (out .entry)) at a (now (out .exit)) r) × (length a ≡ 640) ⌝ }
+{
+    put_bytes(out, at, &a)
+}
