@@ -1,0 +1,84 @@
+// The manual's words as types: the commands, what each needs, the verdict of the checks, the result of a call. The meaning is in specs/.
+
+pub enum Command {
+    ReadCard,
+    CreateWallet,
+    CheckWallet,
+    SetPin,
+    Sign,
+    VerifyCard,
+    ValidateCard,
+    PurgeWallet,
+    ReadUserData,
+    WriteUserData,
+    WriteIssuerData,
+    ReadIssuerData,
+}
+
+// Check 3.
+pub enum Ins {
+    Listed(Command),
+    Unlisted,
+}
+
+// Check 1: where the payload begins.
+pub enum Lc {
+    Body(usize),
+    Wrong,
+}
+
+// The checks 1 to 12: the command and where its payload begins, or the number of the first that fails and its status word.
+pub enum Verdict {
+    Pass(Command, usize),
+    Stop(u8, u16),
+}
+
+// The part of a command's row that no request changes: whether check 7 is made, whether it runs on a card that is not activated,
+// the statuses that allow it, and whether it asks for the CVC where that is used.
+pub struct Needs {
+    pub cid: bool,
+    pub asleep: bool,
+    pub empty: bool,
+    pub loaded: bool,
+    pub purged: bool,
+    pub cvc: bool,
+}
+
+// How the codes of a request compare with those of the card: all that is ever seen of them.
+pub struct Matched {
+    pub pin1: bool,
+    pub pin2: bool,
+    pub new1: bool,
+    pub new2: bool,
+}
+
+// What a call returns: the number of 01's table, the reason (0: no check's number is told yet), the status word, the length written.
+#[repr(C)]
+pub struct Outcome {
+    pub number: u8,
+    pub reason: u8,
+    pub word: u16,
+    pub length: u32,
+}
+
+// The status words of 01.
+pub const SW_DONE: u16 = 0x9000;
+
+pub const SW_LENGTH: u16 = 0x6700;
+
+pub const SW_CLASS: u16 = 0x6E00;
+
+pub const SW_INS: u16 = 0x6D00;
+
+pub const SW_SESSION: u16 = 0x6982;
+
+pub const SW_DATA: u16 = 0x6A86;
+
+pub const SW_STATUS: u16 = 0x6985;
+
+pub const SW_UNCONFIRMED: u16 = 0x6286;
+
+// The room that a buffer for questions or for a response has at least.
+pub const ROOM: usize = 2048;
+
+pub const DRAW: usize = 32;
