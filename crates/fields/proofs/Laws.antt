@@ -13,8 +13,8 @@ use Rattle.fields.specs.declared.Step.{Step}
 use Rattle.fields.specs.declared.Step.the-variants.{Field, Bad, End}
 use Rattle.fields.specs.declared.Found.{Found}
 use Rattle.fields.specs.declared.Found.the-variants.{At, Absent}
-use Rattle.wire.specs.Wire.{room, Wrote, Ran, Runs, joined, put, fit, placed, be2}
-use Rattle.wire.proofs.Laws.{room-true, room-false, by-cases, runs, then, tested, refused, put-nil, wrote-none, wrote-more, all-run}
+use Rattle.wire.specs.Wire.{room, Wrote, Wrotes, Ran, Runs, joined, put, fit, placed, be2}
+use Rattle.wire.proofs.Laws.{room-true, room-false, by-cases, runs, then, tested, refused, put-nil, wrote-none, wrote-more, wrote-append, joined-append, all-run}
 use Rattle.fields.specs.Fields.{Told, headOf, tlv, Tagged, fld, each, written, fieldAt, stepAt, Item, Run, ended, broken, one, goOn, runN, restFrom, firstIn}
 
 -- what a step tells: a field ends past where it started and within the payload
@@ -121,6 +121,23 @@ field {d} {at} {d′} {r} {fs} {d″} {r′} {n} k t v w h u = record {
 -- any larger bound will do
 pub loosely : {n : ℕ} {d : List ℕ} {at : ℕ} {fs : List Tagged} {d′ : List ℕ} {r : ℕ} (m : ℕ) → n ≤ m → Told n d at fs d′ r → Told m d at fs d′ r
 loosely m h u = record { list = u .list; small = omega (arith, u .small) }
+
+-- fields after fields
+each-append : (fs gs : List Tagged) → each (fs ++ gs) ≡ each fs ++ each gs
+unfolding each
+each-append [] gs = refl
+each-append (f ∷ fs) gs = ap (λ l. tlv (f .tag) (f .value) ∷ l) (each-append fs gs)
+
+pub told-append : {n m : ℕ} {d : List ℕ} {at : ℕ} {fs : List Tagged} {d′ : List ℕ} {r : ℕ} {gs : List Tagged} {d″ : List ℕ} {r′ : ℕ} → Told n d at fs d′ r → Told m d′ r gs d″ r′ → Told (n + m) d at (fs ++ gs) d″ r′
+unfolding written
+told-append {n} {m} {d} {at} {fs} {d′} {r} {gs} {d″} {r′} x y =
+    let a = x .small in
+    let b = y .small in
+    let e = each-append fs gs in
+    record {
+      list = subst (λ (l : List (List ℕ)). Wrotes d at l d″ r′) (sym e) (wrote-append (x .list) (y .list));
+      small = subst (λ (l : List (List ℕ)). length (joined l) ≤ n + m) (sym e) (rw (joined-append (each fs) (each gs)) (simp length-append (omega arith)));
+    }
 
 -- where there is room for all of them, the fields stand there
 pub told-run : {n : ℕ} {d : List ℕ} {at : ℕ} {fs : List Tagged} {d′ : List ℕ} {r : ℕ} → Told n d at fs d′ r → Runs d at (written fs) d′ r

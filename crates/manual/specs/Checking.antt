@@ -1,6 +1,6 @@
 -- The rows of the commands that prove something to a challenger, 01 "The commands": F9, F3, F4. Assumes nothing.
 use Prim.Native.Nat.{ℕ, _+_}
-use mathlib.Core.List.{List, [], _∷_, _++_}
+use mathlib.Core.List.{List, [], _∷_}
 use mathlib.Core.Bool.{Bool, true, false, cond, not, _&&_, _||_}
 use lib.ListN.{length}
 use lib.Dec.{ltb, eqb}
@@ -40,12 +40,12 @@ abbrev pub checkFields : List ℕ → Bool
 checkFields p = challenged p && (not (keyAsked p) || (keyAlone p || eqb (length (val 0x14 p)) 16))
 
 -- kind 4 on key, that challenge, key salt, or on the key alone when tag 14 is empty
-abbrev pub keyMessage : Face → List ℕ → List ℕ → List ℕ
-keyMessage f p d = keyOf (f .key) ++ cond (keyAlone p) [] (val 0x14 p ++ keySalt d)
+abbrev pub keyMessage : Face → List ℕ → List ℕ → List (List ℕ)
+keyMessage f p d = keyOf (f .key) ∷ cond (keyAlone p) [] (val 0x14 p ∷ keySalt d ∷ [])
 
 abbrev pub checkQuestions : Face → List ℕ → List ℕ → List Question
 checkQuestions f p d =
-    question 3 (f .wallet .number) (f .fixed .curve) (val 0x16 p ++ salt d)
+    question 3 (f .wallet .number) (f .fixed .curve) (val 0x16 p ∷ salt d ∷ [])
     ∷ cond (keyAsked p) (question 4 (f .wallet .number) (f .fixed .curve) (keyMessage f p d) ∷ []) []
 
 -- with tag 14 also counter after rising, key salt unless tag 14 is empty, card signature
@@ -79,7 +79,7 @@ verifyCard =
       pin2 = λ p. false;
       fields = λ f p. challenged p;
       conditions = λ m f p. true;
-      questions = λ f p d. question 4 (f .wallet .number) (f .fixed .curve) (val 0x16 p ++ salt d) ∷ [];
+      questions = λ f p d. question 4 (f .wallet .number) (f .fixed .curve) (val 0x16 p ∷ salt d ∷ []) ∷ [];
       confirmed = λ a. true;
       next = λ f p a. f;
       recode = stays;
@@ -95,7 +95,7 @@ validateCard =
       pin2 = λ p. true;
       fields = λ f p. true;
       conditions = λ m f p. ltb (f .counters .validations) 65535;
-      questions = λ f p d. question 4 (f .wallet .number) (f .fixed .curve) (be2 (u16 (f .counters .validations + 1))) ∷ [];
+      questions = λ f p d. question 4 (f .wallet .number) (f .fixed .curve) (be2 (u16 (f .counters .validations + 1)) ∷ []) ∷ [];
       confirmed = λ a. true;
       next = λ f p a. withCounters (validatedOnce (f .counters)) f;
       recode = stays;

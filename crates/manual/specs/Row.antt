@@ -13,28 +13,28 @@ use Rattle.manual.specs.declared.Needs.{Needs}
 use Rattle.manual.specs.declared.Matched.{Matched}
 use Rattle.manual.specs.declared.Verdict.{Verdict}
 use Rattle.manual.specs.declared.Verdict.the-variants.{Pass, Stop}
-use Rattle.manual.specs.Request.{lcOf, fits, bodyOf, insOf, listed, command, payload}
+use Rattle.manual.specs.Request.{lcOf, fits, insOf, listed, command, payload}
 
--- QUESTIONS: kind (1), wallet number (2), curve (1), message length (2), message
+-- QUESTIONS: kind (1), wallet number (2), curve (1), message length (2), message, whose parts follow one another
 pub record Question : Type 0 where
   pub kind : ℕ
   pub number : ℕ
   pub curve : ℕ
-  pub message : List ℕ
+  pub message : List (List ℕ)
 
-abbrev pub question : ℕ → ℕ → ℕ → List ℕ → Question
+abbrev pub question : ℕ → ℕ → ℕ → List (List ℕ) → Question
 question k n c m = record { kind = k; number = n; curve = c; message = m }
 
 abbrev pub headBytes : ℕ → ℕ → ℕ → ℕ → List ℕ
 headBytes k n c l = be1 k ++ be2 n ++ be1 c ++ be2 l
 
-unfoldable pub questionBytes : Question → List ℕ
-questionBytes x = headBytes (x .kind) (x .number) (x .curve) (u16 (length (x .message))) ++ x .message
+abbrev pub headOf : Question → List ℕ
+headOf x = headBytes (x .kind) (x .number) (x .curve) (u16 (length (joined (x .message))))
 
--- the bytes of each question, and of all one after the other
+-- the parts of all questions, and their bytes one after the other
 unfoldable pub eachAsked : List Question → List (List ℕ)
 eachAsked [] = []
-eachAsked (x ∷ xs) = questionBytes x ∷ eachAsked xs
+eachAsked (x ∷ xs) = (headOf x ∷ x .message) ++ eachAsked xs
 
 unfoldable pub asked : List Question → List ℕ
 asked xs = joined (eachAsked xs)
@@ -128,4 +128,4 @@ abbrev pub rules : Row → Matched → Face → List ℕ → List Rule
 rules r m f q = headRules q ++ (entryRules r m f (payload q) ++ ownRules r m f (payload q))
 
 abbrev pub passed : List ℕ → Verdict
-passed q = Pass (command q) (bodyOf (lcOf q))
+passed q = Pass (command q)

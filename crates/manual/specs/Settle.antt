@@ -30,7 +30,7 @@ judged m f q = gateOf (rules (row (command q)) m f q) (passed q)
 
 -- the status word of a verdict
 abbrev pub wordOf : Verdict → ℕ
-wordOf (Pass k b) = 0x9000
+wordOf (Pass k) = 0x9000
 wordOf (Stop n w) = w
 
 -- SETTLE: what is said, the face after, and whether the command was carried out; the codes are not in it
@@ -72,7 +72,7 @@ answered r m f p d a = cond (shaped (r .questions f p d) a) (cond (r .confirmed 
 
 abbrev pub saidBy : Verdict → Matched → Face → List ℕ → List ℕ → List ℕ → Said
 saidBy (Stop n w) m f q d a = refused w f
-saidBy (Pass k at) m f q d a = answered (row k) m f (drop at q) d a
+saidBy (Pass k) m f q d a = answered (row k) m f (payload q) d a
 
 unfoldable pub said : Matched → Face → List ℕ → List ℕ → List ℕ → Said
 said m f q d a = saidBy (judged m f q) m f q d a
@@ -143,7 +143,7 @@ posed w v out = posedBy (outcome 0 w (length v)) (over v out)
 -- zero questions where checks 1 to 12 refuse, and their status word; otherwise 9000, with the command's questions or none
 abbrev pub questionsOf : Verdict → Face → List ℕ → List ℕ → List Question
 questionsOf (Stop n w) f q d = []
-questionsOf (Pass k at) f q d = row k .questions f (drop at q) d
+questionsOf (Pass k) f q d = row k .questions f (payload q) d
 
 unfoldable pub askedOf : Matched → Face → List ℕ → List ℕ → List ℕ → Posed
 askedOf m f q d out = posed (wordOf (judged m f q)) (asked (questionsOf (judged m f q) f q d)) out

@@ -100,8 +100,8 @@ abbrev pub issuerFields : Face → List ℕ → Bool
 issuerFields f p = modeOk p && (isData (val 0x32 p) && (eqb (length (val 0x33 p)) 64 && (not (guarded f) || isNumber (val 0x35 p))))
 
 -- kind 5 on signature, CID, data, and the counter if protected
-abbrev pub issuerMessage : Face → List ℕ → List ℕ
-issuerMessage f p = val 0x33 p ++ f .fixed .cid ++ val 0x32 p ++ counterBytes f p
+abbrev pub issuerMessage : Face → List ℕ → List (List ℕ)
+issuerMessage f p = val 0x33 p ∷ f .fixed .cid ∷ val 0x32 p ∷ counterBytes f p ∷ []
 
 abbrev pub keptCounter : Face → List ℕ → ℕ
 keptCounter f p = cond (guarded f) (sentCounter p) (f .issuer .counter)

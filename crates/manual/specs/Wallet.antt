@@ -110,7 +110,7 @@ signFields p = cond (isNew p) (has 0x50 p && (alike (val 0x51 p) (32 ∷ []) && 
 -- kind 2 for each hash, in order
 unfoldable pub hashQuestions : ℕ → ℕ → ℕ → List ℕ → List Question
 hashQuestions number curve zero l = []
-hashQuestions number curve (suc n) l = question 2 number curve (take 32 l) ∷ hashQuestions number curve n (drop 32 l)
+hashQuestions number curve (suc n) l = question 2 number curve (take 32 l ∷ []) ∷ hashQuestions number curve n (drop 32 l)
 
 abbrev pub signedFace : Face → ℕ → List ℕ → Face
 signedFace f n a = withLast (heldLast a) (withCounters (risen (f .counters)) (withWallet (spent n (f .wallet)) f))

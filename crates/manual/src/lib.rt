@@ -27,9 +27,9 @@ pub enum Lc {
     Wrong,
 }
 
-// The checks 1 to 12: the command and where its payload begins, or the number of the first that fails and its status word.
+// The checks 1 to 12: the command, or the number of the first that fails and its status word.
 pub enum Verdict {
-    Pass(Command, usize),
+    Pass(Command),
     Stop(u8, u16),
 }
 

@@ -126,6 +126,24 @@ wrote-more {vs = vs} x y =
 pub wrote-one : {d : List ℕ} {at : ℕ} {v d′ : List ℕ} {r : ℕ} → Wrote d at v d′ r → Wrotes d at (v ∷ []) d′ r
 wrote-one x = wrote-more x wrote-none
 
+page-append : (d : List ℕ) (at : ℕ) (vs ws : List (List ℕ)) → page d at (vs ++ ws) ≡ page (page d at vs .bytes) (page d at vs .at) ws
+unfolding page
+page-append d at [] ws = refl
+page-append d at (v ∷ vs) ws = page-append (fit d at v) (placed d at v) vs ws
+
+pub wrote-append : {d : List ℕ} {at : ℕ} {vs : List (List ℕ)} {d′ : List ℕ} {r : ℕ} {ws : List (List ℕ)} {d″ : List ℕ} {r′ : ℕ} → Wrotes d at vs d′ r → Wrotes d′ r ws d″ r′ → Wrotes d at (vs ++ ws) d″ r′
+wrote-append {d} {at} {vs} {ws = ws} x y =
+    let e = page-append d at vs ws in
+    record {
+      bytes = y .bytes ∙ ap₂ (λ e n. page e n ws .bytes) (x .bytes) (x .next) ∙ sym (ap (λ z. z .bytes) e);
+      next = y .next ∙ ap₂ (λ e n. page e n ws .at) (x .bytes) (x .next) ∙ sym (ap (λ z. z .at) e);
+    }
+
+pub joined-append : (vs ws : List (List ℕ)) → joined (vs ++ ws) ≡ joined vs ++ joined ws
+unfolding joined
+joined-append [] ws = refl
+joined-append (v ∷ vs) ws = ap (λ l. v ++ l) (joined-append vs ws) ∙ sym (append-assoc v (joined vs) (joined ws))
+
 page-plain : (d : List ℕ) (at : ℕ) (vs : List (List ℕ)) → Runs d at (joined vs) (page d at vs .bytes) (page d at vs .at)
 unfolding page joined
 page-plain d at [] = nothing
