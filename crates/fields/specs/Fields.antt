@@ -2,7 +2,7 @@
 use Prim.Native.Nat.{ℕ, zero, suc, _+_, _-_, _*_, _≤_}
 use mathlib.Core.List.{List, [], _∷_, _++_}
 use Rattle.wire.specs.Wire.{part, be2, alike, Wrotes, joined}
-use mathlib.Core.Bool.{Bool, true, false, cond}
+use mathlib.Core.Bool.{Bool, true, false, cond, _||_}
 use lib.ListN.{length, getD, take, drop}
 use lib.Dec.{ltb, leb, eqb}
 use Rattle.fields.specs.declared.Step.{Step}
@@ -107,6 +107,19 @@ each (f ∷ fs) = tlv (f .tag) (f .value) ∷ each fs
 
 unfoldable pub written : List Tagged → List ℕ
 written fs = joined (each fs)
+
+-- READING a list of fields without its bytes: whether a tag is there, the first value with it (nothing where it is absent), and that each value has a length that can be written
+abbrev pub among : ℕ → List Tagged → Bool
+among t [] = false
+among t (f ∷ fs) = eqb (f .tag) t || among t fs
+
+abbrev pub firstOf : ℕ → List Tagged → List ℕ
+firstOf t [] = []
+firstOf t (f ∷ fs) = cond (eqb (f .tag) t) (f .value) (firstOf t fs)
+
+abbrev pub Writable : List Tagged → Type 0
+Writable [] = Unit {0}
+Writable (f ∷ fs) = (length (f .value) ≤ 65535) × Writable fs
 
 -- THE PROMISE of a writer of fields: fs from `at` of d on gave d′, each where there was room, and r is the place after them; they have at most n bytes
 pub record Told (n : ℕ) (d : List ℕ) (at : ℕ) (fs : List Tagged) (d′ : List ℕ) (r : ℕ) : Type 0 where
