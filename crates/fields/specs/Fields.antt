@@ -55,16 +55,17 @@ whole ended = true
 whole broken = false
 whole (one f r) = whole r
 
+-- where the first field with the tag stands, and whether there is one
+abbrev pub found : Found → Bool
+found Absent = false
+found (At b n x) = true
+
 abbrev pub firstIn : ℕ → Run → Found
 firstIn t ended = Absent
 firstIn t broken = Absent
 firstIn t (one f r) = cond (eqb (f .tag) t) (At (f .start) (f .len) (f .next)) (firstIn t r)
 
--- the field with the tag: whether it is there, its value (nothing where it is absent), whether it is there and holds the code
-abbrev pub found : Found → Bool
-found Absent = false
-found (At b n x) = true
-
+-- the field with the tag: its value (nothing where it is absent), whether it is there and holds the code
 abbrev pub valueOf : List ℕ → Found → List ℕ
 valueOf s (At b n x) = part s b n
 valueOf s Absent = []
