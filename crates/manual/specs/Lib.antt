@@ -5,3 +5,4 @@ pub mod Checking
 pub mod Storage
 pub mod Commands
 pub mod Settle
+pub mod Drill

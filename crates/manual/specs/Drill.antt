@@ -1,0 +1,106 @@
+-- The drill sheet, 01 "Drill sheet", all twelve rows as one table of the definitions. Assumes nothing.
+use Prim.Native.Nat.{ℕ, _+_}
+use mathlib.Core.Path.{_≡_, refl}
+use mathlib.Core.List.{List, [], _∷_, _++_}
+use mathlib.Core.Bool.{Bool, true, false, cond}
+use lib.ListN.{length, getD, replicate}
+use Rattle.wire.specs.Wire.{part, put, fit, room, joined, alike, be2, be4}
+use Rattle.fields.specs.Fields.{ended, broken, one, restFrom, runN, stepAt, fieldAt, wellFormed, has, val, holds, Tagged, fld, headOf, tlv, each, written}
+use Rattle.fields.specs.Drill.{item}
+use Rattle.card.specs.declared.Fixed.{Fixed}
+use Rattle.card.specs.declared.Flags.{Flags}
+use Rattle.card.specs.declared.Codes.{Codes}
+use Rattle.card.specs.declared.Wallet.{Wallet}
+use Rattle.card.specs.declared.Counters.{Counters}
+use Rattle.card.specs.declared.Issuer.{Issuer}
+use Rattle.card.specs.declared.Face.{Face}
+use Rattle.card.specs.declared.Card.{Card}
+use Rattle.card.specs.Values.{noKey, noCounters, noBlock, noLast, heldBlock, blockOf}
+use Rattle.manual.specs.declared.Matched.{Matched}
+use Rattle.manual.specs.declared.Verdict.{Verdict}
+use Rattle.manual.specs.declared.Verdict.the-variants.{Pass, Stop}
+use Rattle.manual.specs.Request.{lcOf, insOf}
+use Rattle.manual.specs.Row.{plain, allowed, sizes, shaped}
+use Rattle.manual.specs.Wallet.{sign, hashQuestions}
+use Rattle.manual.specs.Storage.{writeIssuerData}
+use Rattle.manual.specs.Settle.{judged, done, answered, said, Said, saidTo}
+
+-- A CARD to drill on: Loaded, with replay protection, wallet number 1
+abbrev cid0 : List ℕ
+cid0 = replicate 8 7
+
+abbrev codes0 : Codes
+codes0 = record { pin1 = replicate 32 1; pin2 = replicate 32 2 }
+
+abbrev flags0 : Flags
+flags0 = record { reusable = 1; usecvc = 0; setpin1 = 1; setpin2 = 1; nopurge = 0; replay = 1; active = 1 }
+
+abbrev card0 : ℕ → ℕ → ℕ → ℕ → Card
+card0 remaining signed user counter =
+    record {
+      face = record {
+        fixed = record { cid = cid0; cvc = replicate 3 48; curve = 1; max = 100 };
+        flags = flags0;
+        wallet = record { status = 2; number = 1; remaining = remaining; signed = signed };
+        key = noKey;
+        counters = record { checks = 0; validations = 0; user = user; protected = 0 };
+        user = noBlock;
+        protected = noBlock;
+        issuer = record { block = noBlock; signature = replicate 64 0; counter = counter };
+        last = noLast;
+      };
+      codes = codes0;
+    }
+
+-- a request under its codes
+abbrev request : ℕ → List Tagged → List ℕ
+request ins fs =
+    let p : List ℕ = written (fld 0x10 (codes0 .pin1) ∷ fld 0x01 cid0 ∷ fld 0x11 (codes0 .pin2) ∷ fs) in
+    0 ∷ ins ∷ 0 ∷ 0 ∷ 0 ∷ (be2 (length p) ++ p)
+
+-- a note with a counter, and a SIGN over n hashes
+abbrev note : ℕ → List ℕ
+note n = request 0xF6 (fld 0x32 (0x4F ∷ 0x4B ∷ []) ∷ fld 0x33 (replicate 64 9) ∷ fld 0x35 (be4 n) ∷ [])
+
+abbrev signing : ℕ → List ℕ
+signing size = request 0xFB (fld 0x50 (replicate size 3) ∷ fld 0x51 (32 ∷ []) ∷ [])
+
+abbrev draw0 : List ℕ
+draw0 = replicate 32 0
+
+-- what is said of a note and its answer, and of a SIGN over five hashes
+abbrev noted : Said
+noted = saidTo (card0 5 0 0 9) (note 10) draw0 (1 ∷ [])
+
+abbrev five : ℕ → ℕ → ℕ → Said
+five remaining signed user = saidTo (card0 remaining signed user 0) (signing 160) draw0 (replicate 320 5)
+
+pub drill :
+    -- (1) `1000` is a field of length 0
+    (restFrom (0x10 ∷ 0x00 ∷ []) 0 ≡ one (item 0x10 2 0 2) ended)
+    -- (2) `10FF0000` the same
+    × (restFrom (0x10 ∷ 0xFF ∷ 0x00 ∷ 0x00 ∷ []) 0 ≡ one (item 0x10 4 0 4) ended)
+    -- (3) `10FF` malformed
+    × (wellFormed (0x10 ∷ 0xFF ∷ []) ≡ false)
+    -- (4) the empty payload has no field
+    × (restFrom [] 0 ≡ ended)
+    -- (5) a request of 5 bytes ending in Lc 00: 6700
+    × ((m : Matched) (f : Face) → judged m f (0x00 ∷ 0xF2 ∷ 0x00 ∷ 0x00 ∷ 0x00 ∷ []) ≡ Stop 1 0x6700)
+    -- (6) the lowest wrong of CLA 80 and INS 00: 6E00
+    × ((m : Matched) (f : Face) → judged m f (0x80 ∷ 0x00 ∷ 0x00 ∷ 0x00 ∷ 0x02 ∷ 0x10 ∷ 0x00 ∷ []) ≡ Stop 2 0x6E00)
+    -- (7) P1 01 with P2 02: 6982
+    × ((m : Matched) (f : Face) → judged m f (0x00 ∷ 0xF2 ∷ 0x01 ∷ 0x02 ∷ 0x02 ∷ 0x10 ∷ 0x00 ∷ []) ≡ Stop 4 0x6982)
+    -- (8) protected, stored counter 9, sent 9: 6985
+    × (saidTo (card0 5 0 0 9) (note 9) draw0 (1 ∷ []) .word ≡ 0x6985)
+    -- (9) the same, sent 10, answer 1: stored
+    × (noted .word ≡ 0x9000) × (noted .face .issuer .counter ≡ 10) × (blockOf (noted .face .issuer .block) ≡ 0x4F ∷ 0x4B ∷ [])
+    -- (10) five hashes at Remaining 1: Remaining 0, Signed_Hashes up 5
+    × (five 1 20 0 .word ≡ 0x9000) × (five 1 20 0 .face .wallet .remaining ≡ 0) × (five 1 20 0 .face .wallet .signed ≡ 25)
+    -- (11) six at Signed_Hashes 4,294,967,290: 6985; five: done
+    × (saidTo (card0 5 4294967290 0 0) (signing 192) draw0 (replicate 384 5) .word ≡ 0x6985)
+    × (five 5 4294967290 0 .word ≡ 0x9000) × (five 5 4294967290 0 .face .wallet .signed ≡ 4294967295)
+    -- (12) user counter 4,294,967,295 after a SIGN: 0
+    × (five 5 0 4294967295 .face .counters .user ≡ 0)
+unfolding restFrom runN stepAt fieldAt wellFormed has val holds part alike written each joined tlv headOf put fit room blockOf lcOf insOf plain allowed judged said answered done sizes shaped hashQuestions sign writeIssuerData
+drill =
+    (refl, refl, refl, refl, (λ m f. refl), (λ m f. refl), (λ m f. refl), refl, refl, refl, refl, refl, refl, refl, refl, refl, refl, refl)
