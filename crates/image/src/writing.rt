@@ -14,7 +14,7 @@ ghost use mathlib.Core.Path.{_≡_};
 ghost use lib.ListN.{length};
 ghost use Rattle.wire.specs.Wire.{Runs};
 ghost use Rattle.card.specs.Image.{encCodes, encFixed, encFlags, encWallet, encKey, encCounters, encBlock, encIssuer, encLast, encFace};
-ghost use Rattle.image.specs.Front.{encFront};
+ghost use Rattle.image.specs.Halves.{encFront};
 
 pub fn write_codes(x: Codes, out: &mut [u8], at: usize) -> usize
     ensures { λ r. ⌜ (Runs (now (out .entry)) at (encCodes x) (now (out .exit)) r) × (length (encCodes x) ≡ 64) ⌝ }

@@ -1,7 +1,7 @@
 use native.Mathlib.Omega.{arith}
 use lib.ListN.{length-append}
 use Rattle.wire.proofs.Laws.{then}
-use Rattle.image.specs.Front.{encFront}
+use Rattle.image.specs.Halves.{encFront}
 use borrow.Author.Needs.{needs}
 use Rattle.image.proofs.writing.write_front.Statement.{statement}
 use Rattle.image.proofs.writing.write_front.Tie as tie

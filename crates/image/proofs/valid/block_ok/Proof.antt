@@ -1,0 +1,24 @@
+use Rattle.card.specs.Valid.{okBlock}
+use borrow.Author.Needs.{needs}
+use Rattle.image.proofs.valid.block_ok.Statement.{statement}
+use Rattle.image.proofs.valid.block_ok.Tie as tie
+
+cast-n : tie.Need-cast-n
+cast-n c = search needs
+
+slice-aggregate-zero-from : tie.Need-slice-aggregate-zero-from
+slice-aggregate-zero-from c = search needs
+
+zero-from-requires : tie.Need-zero-from-requires
+zero-from-requires c κs = tt
+
+both-requires : tie.Need-both-requires
+both-requires c κs = tt
+
+returns : tie.Need-returns
+unfolding okBlock
+returns c = cc
+
+pub block-ok-spec : {M : Type 1} → statement M
+block-ok-spec =
+    tie.close (tie.spec cast-n slice-aggregate-zero-from zero-from-requires both-requires returns)
