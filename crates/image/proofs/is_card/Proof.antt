@@ -1,5 +1,10 @@
+use Rattle.image.proofs.Laws.{both-and}
+use mathlib.Core.Path.{ap, _∙_}
+use lib.Dec.{eqb}
+use lib.ListN.{length}
+use Rattle.wire.specs.Wire.{verdict}
+use Rattle.card.specs.Valid.{okFace}
 use Rattle.card.specs.Valid.{isCard}
-use borrow.Author.Needs.{needs}
 use Rattle.image.proofs.is_card.Statement.{statement}
 use Rattle.image.proofs.is_card.Tie as tie
 
@@ -17,7 +22,9 @@ checked-requires c κs = tt
 
 returns : tie.Need-returns
 unfolding isCard
-returns c = cc
+returns c =
+    let img = c .before .before .before .before .before .before .args .img in
+    (c .checked .ensures) ∙ ap verdict (both-and (eqb (length (img .now)) 2429) (c .before .both .ensures) ((c .before .before .face-ok .ensures) ∙ ap (λ x. okFace (x .face)) (c .before .before .before .before .read .ensures)))
 
 pub is-card-spec : {M : Type 1} → statement M
 is-card-spec =

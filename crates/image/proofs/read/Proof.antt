@@ -1,5 +1,4 @@
 use Rattle.card.specs.Image.{decode}
-use borrow.Author.Needs.{needs}
 use Rattle.image.proofs.read.Statement.{statement}
 use Rattle.image.proofs.read.Tie as tie
 
@@ -11,7 +10,7 @@ read-codes-requires c κs = tt
 
 returns : tie.Need-returns
 unfolding decode
-returns c = cc
+returns c = λ i. record { face = c .before .read-face .ensures i; codes = c .read-codes .ensures i }
 
 pub read-spec : {M : Type 1} → statement M
 read-spec = tie.close (tie.spec read-face-requires read-codes-requires returns)

@@ -1,5 +1,7 @@
+use mathlib.Core.Path.{ap, _∙_}
+use Rattle.wire.specs.Wire.{grab, num32}
+use lib.ListN.{getD}
 use Rattle.card.specs.Image.{decFixed}
-use borrow.Author.Needs.{needs}
 use Rattle.image.proofs.reading.read_fixed.Statement.{statement}
 use Rattle.image.proofs.reading.read_fixed.Tie as tie
 
@@ -20,7 +22,13 @@ get32-requires c κs = tt
 
 returns : tie.Need-returns
 unfolding decFixed
-returns c = cc
+returns c =
+    let w4 = c in
+    let w3 = w4 .before in
+    let w2 = w3 .before in
+    let w1 = w2 .before in
+    let s = w1 .before .part .ensures in
+    λ i. record { cid = (w1 .take8 .ensures .0 ∙ ap (λ l. grab 8 0 l) s) i; cvc = (w2 .take3 .ensures .0 ∙ ap (λ l. grab 3 8 l) s) i; curve = (w3 .get8 .ensures ∙ ap (λ l. getD l 11 0) s) i; max = (w4 .get32 .ensures ∙ ap (λ l. num32 l 12) s) i }
 
 pub read-fixed-spec : {M : Type 1} → statement M
 read-fixed-spec =

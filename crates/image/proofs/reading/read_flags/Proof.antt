@@ -1,5 +1,6 @@
+use mathlib.Core.Path.{ap, _∙_}
+use lib.ListN.{getD}
 use Rattle.card.specs.Image.{decFlags}
-use borrow.Author.Needs.{needs}
 use Rattle.image.proofs.reading.read_flags.Statement.{statement}
 use Rattle.image.proofs.reading.read_flags.Tie as tie
 
@@ -29,7 +30,16 @@ get8-requires-7 c κs = tt
 
 returns : tie.Need-returns
 unfolding decFlags
-returns c = cc
+returns c =
+    let w7 = c in
+    let w6 = w7 .before in
+    let w5 = w6 .before in
+    let w4 = w5 .before in
+    let w3 = w4 .before in
+    let w2 = w3 .before in
+    let w1 = w2 .before in
+    let s = w1 .before .part .ensures in
+    λ i. record { reusable = (w1 .get8 .ensures ∙ ap (λ l. getD l 0 0) s) i; usecvc = (w2 .get82 .ensures ∙ ap (λ l. getD l 1 0) s) i; setpin1 = (w3 .get83 .ensures ∙ ap (λ l. getD l 2 0) s) i; setpin2 = (w4 .get84 .ensures ∙ ap (λ l. getD l 3 0) s) i; nopurge = (w5 .get85 .ensures ∙ ap (λ l. getD l 4 0) s) i; replay = (w6 .get86 .ensures ∙ ap (λ l. getD l 5 0) s) i; active = (w7 .get87 .ensures ∙ ap (λ l. getD l 6 0) s) i }
 
 pub read-flags-spec : {M : Type 1} → statement M
 read-flags-spec =

@@ -1,3 +1,5 @@
+use Rattle.image.proofs.Laws.{both-and}
+use lib.Dec.{leb}
 use Rattle.card.specs.Valid.{okBlock}
 use borrow.Author.Needs.{needs}
 use Rattle.image.proofs.valid.block_ok.Statement.{statement}
@@ -17,7 +19,9 @@ both-requires c κs = tt
 
 returns : tie.Need-returns
 unfolding okBlock
-returns c = cc
+returns c =
+    let x = c .before .before .before .before .before .before .args .x in
+    both-and (leb (x .size) 512) (c .both .ensures) (c .before .zero-from .ensures)
 
 pub block-ok-spec : {M : Type 1} → statement M
 block-ok-spec =

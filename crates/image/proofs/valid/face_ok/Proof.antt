@@ -1,6 +1,6 @@
+use Rattle.image.proofs.Laws.{both-of}
 use Rattle.card.specs.Valid.{okFace}
 use Rattle.image.specs.Halves.{okHeld}
-use borrow.Author.Needs.{needs}
 use Rattle.image.proofs.valid.face_ok.Statement.{statement}
 use Rattle.image.proofs.valid.face_ok.Tie as tie
 
@@ -27,7 +27,7 @@ both-requires-3 c κs = tt
 
 returns : tie.Need-returns
 unfolding okFace okHeld
-returns c = cc
+returns c = both-of (c .both3 .ensures) (c .before .before .before .flags-ok .ensures) (both-of (c .before .both2 .ensures) (c .before .before .ranges-ok .ensures) (both-of (c .before .before .before .before .both .ensures) (c .before .before .before .before .before .before .state-ok .ensures) (c .before .before .before .before .before .held-ok .ensures)))
 
 pub face-ok-spec : {M : Type 1} → statement M
 face-ok-spec =

@@ -1,5 +1,6 @@
+use Rattle.image.proofs.Laws.{both-and}
+use lib.Dec.{leb}
 use Rattle.card.specs.Valid.{okFlags}
-use borrow.Author.Needs.{needs}
 use Rattle.image.proofs.valid.flags_ok.Statement.{statement}
 use Rattle.image.proofs.valid.flags_ok.Tie as tie
 
@@ -23,7 +24,9 @@ both-requires-6 c κs = tt
 
 returns : tie.Need-returns
 unfolding okFlags
-returns c = cc
+returns c =
+    let x = c .before .before .before .before .before .before .before .before .before .before .before .before .before .args .x in
+    both-and (leb (x .reusable) 1) (c .both6 .ensures) (both-and (leb (x .usecvc) 1) (c .before .both5 .ensures) (both-and (leb (x .setpin1) 1) (c .before .before .before .before .both4 .ensures) (both-and (leb (x .setpin2) 1) (c .before .before .before .before .before .both3 .ensures) (both-and (leb (x .nopurge) 1) (c .before .before .before .before .before .before .both2 .ensures) (c .before .before .before .before .before .before .before .before .before .before .both .ensures)))))
 
 pub flags-ok-spec : {M : Type 1} → statement M
 flags-ok-spec =

@@ -1,5 +1,5 @@
+use Rattle.image.proofs.Laws.{both-of}
 use Rattle.image.specs.Halves.{okHeld}
-use borrow.Author.Needs.{needs}
 use Rattle.image.proofs.valid.held_ok.Statement.{statement}
 use Rattle.image.proofs.valid.held_ok.Tie as tie
 
@@ -32,7 +32,7 @@ both-requires-4 c κs = tt
 
 returns : tie.Need-returns
 unfolding okHeld
-returns c = cc
+returns c = both-of (c .both4 .ensures) (c .before .key-ok .ensures) (both-of (c .before .before .both3 .ensures) (c .before .before .before .before .before .block-ok .ensures) (both-of (c .before .before .before .both2 .ensures) (c .before .before .before .before .block-ok2 .ensures) (both-of (c .before .before .before .before .before .before .both .ensures) (c .before .before .before .before .before .before .before .before .issuer-ok .ensures) (c .before .before .before .before .before .before .before .last-ok .ensures))))
 
 pub held-ok-spec : {M : Type 1} → statement M
 held-ok-spec =

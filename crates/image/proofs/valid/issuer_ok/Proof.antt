@@ -1,3 +1,5 @@
+use Rattle.image.proofs.Laws.{both-of, either-or}
+use lib.Dec.{leb}
 use Rattle.card.specs.Valid.{okIssuer}
 use borrow.Author.Needs.{needs}
 use Rattle.image.proofs.valid.issuer_ok.Statement.{statement}
@@ -20,7 +22,9 @@ both-requires c κs = tt
 
 returns : tie.Need-returns
 unfolding okIssuer
-returns c = cc
+returns c =
+    let x = c .before .before .before .before .before .before .before .before .args .x in
+    both-of (c .both .ensures) (c .before .block-ok .ensures) (either-or (leb 1 (x .block .size)) (c .before .before .either .ensures) (c .before .before .before .zero-from .ensures))
 
 pub issuer-ok-spec : {M : Type 1} → statement M
 issuer-ok-spec =

@@ -1,3 +1,6 @@
+use Rattle.image.proofs.Laws.{both-of, either-of}
+use mathlib.Core.Path.{ap}
+use lib.Dec.{eqb}
 use Rattle.card.specs.Valid.{okKey}
 use borrow.Author.Needs.{needs}
 use Rattle.image.proofs.valid.key_ok.Statement.{statement}
@@ -35,7 +38,9 @@ both-requires-2 c κs = tt
 
 returns : tie.Need-returns
 unfolding okKey
-returns c = cc
+returns c =
+    let x = c .before .before .before .before .before .before .before .before .before .before .before .before .before .args .x in
+    both-of (c .both2 .ensures) (ap (eqb (x .size)) (c .before .before .before .before .before .key-size .ensures)) (both-of (c .before .both .ensures) (either-of (c .before .before .before .before .before .before .either .ensures) (c .before .before .before .before .before .before .before .before .before .unless .ensures) (ap (λ n. eqb n 4) (c .before .before .before .before .before .before .before .get8 .ensures))) (c .before .before .zero-from .ensures))
 
 pub key-ok-spec : {M : Type 1} → statement M
 key-ok-spec =

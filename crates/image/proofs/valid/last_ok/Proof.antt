@@ -1,3 +1,5 @@
+use Rattle.image.proofs.Laws.{both-and}
+use lib.Dec.{leb}
 use Rattle.card.specs.Valid.{okLast}
 use borrow.Author.Needs.{needs}
 use Rattle.image.proofs.valid.last_ok.Statement.{statement}
@@ -20,7 +22,9 @@ both-requires c κs = tt
 
 returns : tie.Need-returns
 unfolding okLast
-returns c = cc
+returns c =
+    let x = c .before .before .before .before .before .before .args .x in
+    both-and (leb (x .count) 10) (c .both .ensures) (c .before .zero-from .ensures)
 
 pub last-ok-spec : {M : Type 1} → statement M
 last-ok-spec =

@@ -1,5 +1,6 @@
+use Rattle.image.proofs.Laws.{both-of, both-and, either-or}
+use lib.Dec.{leb, eqb}
 use Rattle.card.specs.Valid.{okRanges}
-use borrow.Author.Needs.{needs}
 use Rattle.image.proofs.valid.ranges_ok.Statement.{statement}
 use Rattle.image.proofs.valid.ranges_ok.Tie as tie
 
@@ -29,7 +30,10 @@ both-requires-4 c κs = tt
 
 returns : tie.Need-returns
 unfolding okRanges
-returns c = cc
+returns c =
+    let x = c .before .before .before .before .before .before .before .before .before .before .before .before .before .before .before .before .before .before .args .x in
+    let w = c .before .before .before .before .before .before .before .before .before .before .before .before .before .before .before .before .before .before .args .w in
+    both-of (c .both4 .ensures) (c .before .before .before .before .before .before .before .before .before .before .before .before .before .before .before .either .ensures) (both-and (leb 1 (x .max)) (c .before .both3 .ensures) (both-of (c .before .before .before .both2 .ensures) (either-or (eqb (w .status) 1) (c .before .before .before .before .before .before .before .before .before .before .either3 .ensures) (c .before .before .before .before .before .before .before .before .before .before .before .before .either2 .ensures)) (both-and (leb (w .remaining) (x .max)) (c .before .before .before .before .both .ensures) (c .before .before .before .before .before .before .before .either4 .ensures))))
 
 pub ranges-ok-spec : {M : Type 1} → statement M
 ranges-ok-spec =

@@ -1,5 +1,7 @@
+use Rattle.image.proofs.Laws.{both-of, either-or}
+use mathlib.Core.Path.{ap}
+use lib.Dec.{eqb}
 use Rattle.card.specs.Valid.{okState}
-use borrow.Author.Needs.{needs}
 use Rattle.image.proofs.valid.state_ok.Statement.{statement}
 use Rattle.image.proofs.valid.state_ok.Tie as tie
 
@@ -35,7 +37,10 @@ both-requires-4 c κs = tt
 
 returns : tie.Need-returns
 unfolding okState
-returns c = cc
+returns c =
+    let x = c .before .before .before .before .before .before .before .before .before .before .before .before .before .before .before .before .before .before .args .x in
+    let w = c .before .before .before .before .before .before .before .before .before .before .before .before .before .before .before .before .before .before .args .w in
+    both-of (c .both4 .ensures) (c .before .before .before .either5 .ensures) (both-of (c .before .both3 .ensures) (either-or (eqb (x .reusable) 1) (c .before .before .before .before .before .either4 .ensures) (ap (eqb (w .number)) (c .before .before .before .before .before .before .before .only-number .ensures))) (both-of (c .before .before .both2 .ensures) (either-or (eqb (x .reusable) 0) (c .before .before .before .before .before .before .before .before .before .either3 .ensures) (c .before .before .before .before .before .before .before .before .before .before .either2 .ensures)) (either-or (eqb (x .active) 1) (c .before .before .before .before .before .before .before .before .before .before .before .before .before .either .ensures) (c .before .before .before .before .before .before .before .before .before .before .before .before .before .before .both .ensures))))
 
 pub state-ok-spec : {M : Type 1} → statement M
 state-ok-spec =
