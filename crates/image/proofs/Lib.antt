@@ -1,3 +1,4 @@
 pub mod Laws
+pub mod Round
 pub mod Held
 pub mod Shape
