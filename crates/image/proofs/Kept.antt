@@ -1,0 +1,177 @@
+-- WHAT MAKES AN IMAGE A CARD IS KEPT: by each method of the wallet, by what is held, and so by a face with a group anew. Assumes nothing.
+use Prim.Native.Nat.{ℕ, _+_, _-_, _*_, _/_, _%_, _≤_, _<_}
+use native.Mathlib.Omega.{arith}
+use mathlib.Core.Path.{_≡_, refl, sym, ap, _∙_}
+use mathlib.Core.Bool.{Bool, true, false, cond, not, _&&_, _||_}
+use mathlib.Core.List.{List, []}
+use lib.ListN.{length, getD, drop}
+use lib.Dec.{leb, eqb}
+use borrow.Author.Tests.{le-leb, leb-true, eq-eqb, eqb-true, eqb-false}
+use Rattle.wire.specs.Wire.{fit, room, put, pad}
+use Rattle.wire.proofs.Parts.{length-pad, pad-whole, pad-room, part-pad}
+use Rattle.card.specs.declared.Fixed.{Fixed}
+use Rattle.card.specs.declared.Flags.{Flags}
+use Rattle.card.specs.declared.Wallet.{Wallet}
+use Rattle.card.specs.declared.Issuer.{Issuer}
+use Rattle.card.specs.Values.{u8, u16, created, spent, purged, afterPurge, heldKey, heldBlock, heldIssuer, heldLast, noKey, keyOf, blockOf, lastOf}
+use Rattle.card.specs.Valid.{keySize, keyTests, blockTests, issuerTests, lastTests, okFlags, okRanges, okState, okKey, okBlock, okIssuer, okLast, statusKnown}
+use Rattle.image.specs.Shape.{ShapeIssuer}
+use Rattle.image.proofs.Tests.{or-true, join, Ranged, ranged, is-ranged, Stated, stated, is-stated}
+
+or-left : (a : Bool) → (a || false) ≡ true → a ≡ true
+or-left true e = refl
+or-left false e = e
+
+-- THE WALLET, F8: Empty before, and a number that may rise
+once-more : (a : Bool) (n : ℕ) → (a || eqb n 0) ≡ true → (a || eqb (u16 (n + 1)) 1) ≡ true
+once-more true n e = refl
+once-more false n e = let z : n ≡ 0 = eqb-true n 0 e in eq-eqb (u16 (n + 1)) 1 (omega arith)
+
+module _ (x : Fixed) (g : Flags) (w : Wallet) (ranges : okRanges x w ≡ true) (state : okState g w ≡ true) where
+  pub keeps-create : w .status ≡ 1 → w .number < 65535 → g .active ≡ 1 → (okRanges x (created (x .max) w) ≡ true) × (okState g (created (x .max) w) ≡ true)
+  keeps-create empty low awake =
+      let r = ranged x w ranges in
+      let s = stated g w state in
+      let next = created (x .max) w in
+      let one : 1 ≤ next .number = omega arith in
+      let once : (eqb (g .reusable) 1 || eqb (w .number) 0) ≡ true = rw (eq-eqb _ _ empty) at (s .once) in (
+        is-ranged x next (record { curve = r .curve; max = r .max; status = refl; remaining = le-leb (x .max) (x .max) (omega arith); idle = refl }),
+        is-stated g next (record { begun = le-leb 1 (next .number) one; once = once-more (eqb (g .reusable) 1) (w .number) once; purges = or-true (eqb (g .reusable) 0) refl; asleep = rw (eq-eqb _ _ awake) }),
+      )
+
+-- FB: whatever the number of hashes
+or-less : (a : Bool) (n : ℕ) → (a || eqb n 0) ≡ true → (a || eqb (n - 1) 0) ≡ true
+or-less true n e = refl
+or-less false n e = let z : n ≡ 0 = eqb-true n 0 e in eq-eqb (n - 1) 0 (omega arith)
+
+module _ (x : Fixed) (g : Flags) (n : ℕ) (w : Wallet) where
+  pub keeps-sign : okRanges x w ≡ true → okState g w ≡ true → (okRanges x (spent n w) ≡ true) × (okState g (spent n w) ≡ true)
+  keeps-sign ranges state =
+      let r = ranged x w ranges in
+      let s = stated g w state in
+      let low = leb-true (w .remaining) (x .max) (r .remaining) in (
+        is-ranged x (spent n w) (record { curve = r .curve; max = r .max; status = r .status; remaining = le-leb (w .remaining - 1) (x .max) (omega arith); idle = or-less (eqb (w .status) 2) (w .remaining) (r .idle) }),
+        is-stated g (spent n w) (record { begun = s .begun; once = s .once; purges = s .purges; asleep = s .asleep }),
+      )
+
+-- FC: Loaded before; Empty after where the card is reusable, and else Purged
+after-known : (b : Bool) → (eqb (cond b 1 3) 1 || (eqb (cond b 1 3) 2 || eqb (cond b 1 3) 3)) ≡ true
+after-known true = refl
+after-known false = refl
+
+after-once : (b : Bool) (n : ℕ) → (b || eqb n 1) ≡ true → (b || eqb n (cond (eqb (cond b 1 3) 1) 0 1)) ≡ true
+after-once true n e = refl
+after-once false n e = e
+
+after-purges : (m : ℕ) → m ≤ 1 → (b : Bool) → eqb m 1 ≡ b → (eqb m 0 || (eqb (cond b 1 3) 1 || eqb (cond b 1 3) 2)) ≡ true
+after-purges m h true e = or-true (eqb m 0) refl
+after-purges m h false e = let n = eqb-false m 1 e in let z : m ≡ 0 = omega arith in rw (eq-eqb m 0 z)
+
+module _ (x : Fixed) (g : Flags) (w : Wallet) (ranges : okRanges x w ≡ true) (state : okState g w ≡ true) where
+  pub keeps-purge : w .status ≡ 2 → g .reusable ≤ 1 → (okRanges x (purged (g .reusable) w) ≡ true) × (okState g (purged (g .reusable) w) ≡ true)
+  keeps-purge loaded flag =
+      let r = ranged x w ranges in
+      let s = stated g w state in
+      let again = eqb (g .reusable) 1 in
+      let next = purged (g .reusable) w in
+      let begun : leb 1 (w .number) ≡ true = rw loaded at (s .begun) in
+      let once : (again || eqb (w .number) 1) ≡ true = rw loaded at (s .once) in
+      let awake : eqb (g .active) 1 ≡ true = or-left (eqb (g .active) 1) (rw loaded at (s .asleep)) in (
+        is-ranged x next (record { curve = r .curve; max = r .max; status = after-known again; remaining = le-leb 0 (x .max) (omega arith); idle = or-true (eqb (next .status) 2) refl }),
+        is-stated g next (record { begun = or-true (eqb (next .status) 1) begun; once = after-once again (w .number) once; purges = after-purges (g .reusable) flag again refl; asleep = rw awake }),
+      )
+
+-- WHAT IS HELD: a key of the size that curve and status ask for, of 65 bytes only with 04 in front
+key-small : (curve status : ℕ) → keySize curve status ≤ 65
+unfolding keySize
+key-small curve status = go (eqb status 2) (eqb curve 1)
+  where
+    go : (a b : Bool) → cond a (cond b 65 32) 0 ≤ 65
+    go true true = omega arith
+    go true false = omega arith
+    go false b = omega arith
+
+four : (n : ℕ) (x : List ℕ) → length x ≤ 65 → (length x ≡ 65 → getD x 0 0 ≡ 4) → n ≡ length x → (b : Bool) → eqb n 65 ≡ b → (not b || eqb (getD (pad 65 x) 0 0) 4) ≡ true
+four n x h k e false b = refl
+four n x h k e true b =
+    let z : length x ≡ 65 = sym e ∙ eqb-true n 65 b in
+    rw (pad-whole 65 x z) (eq-eqb (getD x 0 0) 4 (k z))
+
+module _ (curve status : ℕ) (k : List ℕ) (long : length k ≡ keySize curve status) (start : length k ≡ 65 → getD k 0 0 ≡ 4) where
+  pub held-key-ok : okKey curve status (heldKey k) ≡ true
+  unfolding okKey
+  held-key-ok =
+      let h : length k ≤ 65 = omega (arith, key-small curve status) in
+      let e : u8 (length k) ≡ length k = omega arith in
+      join (keyTests curve status (heldKey k))
+      (eq-eqb (u8 (length k)) (keySize curve status) (e ∙ long), (four (u8 (length k)) k h start e (eqb (u8 (length k)) 65) refl, rw e (pad-room 65 k h)))
+
+pub held-block-ok : (d : List ℕ) → length d ≤ 512 → okBlock (heldBlock d) ≡ true
+unfolding okBlock
+held-block-ok d h =
+    let e : u16 (length d) ≡ length d = omega arith in
+    let i : u16 (length d) ≤ 512 = omega arith in
+    join (blockTests (heldBlock d)) (le-leb (u16 (length d)) 512 i, rw e (pad-room 512 d h))
+
+pub held-issuer-ok : (d s : List ℕ) (n : ℕ) → 1 ≤ length d → length d ≤ 512 → okIssuer (heldIssuer d s n) ≡ true
+unfolding okIssuer
+held-issuer-ok d s n l h =
+    let i : 1 ≤ u16 (length d) = omega arith in
+    join (issuerTests (heldIssuer d s n)) (held-block-ok d h, rw (le-leb 1 (u16 (length d)) i))
+
+pub held-last-ok : (s : List ℕ) (n : ℕ) → length s ≡ n * 64 → n ≤ 10 → okLast (heldLast s) ≡ true
+unfolding okLast
+held-last-ok s n l h =
+    let e : u8 (length s / 64) ≡ n = omega arith in
+    let i : u8 (length s / 64) ≤ 10 = omega arith in
+    let z : u8 (length s / 64) * 64 ≡ length s = omega arith in
+    let k : length s ≤ 640 = omega arith in
+    join (lastTests (heldLast s)) (le-leb (u8 (length s / 64)) 10 i, rw z (pad-room 640 s k))
+
+-- and its arrays have their lengths
+pub held-key-long : (k : List ℕ) → length (heldKey k .bytes) ≡ 65
+held-key-long k = length-pad 65 k
+
+pub held-block-long : (d : List ℕ) → length (heldBlock d .bytes) ≡ 512
+held-block-long d = length-pad 512 d
+
+pub held-issuer-long : (d s : List ℕ) (n : ℕ) → ShapeIssuer (heldIssuer d s n)
+held-issuer-long d s n = record { block = length-pad 512 d; signature = length-pad 64 s }
+
+pub held-last-long : (s : List ℕ) → length (heldLast s .signatures) ≡ 640
+held-last-long s = length-pad 640 s
+
+-- and it is what was given
+pub key-of-held : (k : List ℕ) → length k ≤ 65 → keyOf (heldKey k) ≡ k
+unfolding keyOf
+key-of-held k h = let e : u8 (length k) ≡ length k = omega arith in rw e (part-pad 65 k h)
+
+pub block-of-held : (d : List ℕ) → length d ≤ 512 → blockOf (heldBlock d) ≡ d
+unfolding blockOf
+block-of-held d h = let e : u16 (length d) ≡ length d = omega arith in rw e (part-pad 512 d h)
+
+pub last-of-held : (s : List ℕ) (n : ℕ) → length s ≡ n * 64 → n ≤ 10 → lastOf (heldLast s) ≡ s
+unfolding lastOf
+last-of-held s n l h =
+    let z : u8 (length s / 64) * 64 ≡ length s = omega arith in
+    let k : length s ≤ 640 = omega arith in
+    rw z (part-pad 640 s k)
+
+-- no key where the card is not Loaded, as after a purge
+pub no-key : heldKey [] ≡ noKey
+unfolding fit room put
+no-key = refl
+
+key-none : (curve status : ℕ) → eqb status 2 ≡ false → 0 ≡ keySize curve status
+unfolding keySize
+key-none curve status e = rw e
+
+pub no-key-ok : (curve status : ℕ) → eqb status 2 ≡ false → okKey curve status (heldKey []) ≡ true
+no-key-ok curve status e = held-key-ok curve status [] (key-none curve status e) (λ z. absurd (let n : _≡_ {A = ℕ} 0 65 = z in omega arith))
+
+pub purged-key-ok : (curve reusable : ℕ) → okKey curve (afterPurge reusable) (heldKey []) ≡ true
+purged-key-ok curve reusable = no-key-ok curve (afterPurge reusable) (go (eqb reusable 1))
+  where
+    go : (b : Bool) → eqb (cond b 1 3) 2 ≡ false
+    go true = refl
+    go false = refl
