@@ -1,0 +1,39 @@
+use Rattle.checks.proofs.any_sent.Statement.{statement}
+use Rattle.checks.proofs.any_sent.Tie as tie
+
+has-requires : tie.Need-has-requires
+has-requires c κs = tt
+
+has-requires-2 : tie.Need-has-requires-2
+has-requires-2 c κs = tt
+
+either-requires : tie.Need-either-requires
+either-requires c κs = tt
+
+has-requires-3 : tie.Need-has-requires-3
+has-requires-3 c κs = tt
+
+has-requires-4 : tie.Need-has-requires-4
+has-requires-4 c κs = tt
+
+either-requires-2 : tie.Need-either-requires-2
+either-requires-2 c κs = tt
+
+either-requires-3 : tie.Need-either-requires-3
+either-requires-3 c κs = tt
+
+returns : tie.Need-returns
+returns c = cc
+
+pub any-sent-spec : {M : Type 1} → statement M
+any-sent-spec =
+    tie.close
+    (tie.spec
+    has-requires
+    has-requires-2
+    either-requires
+    has-requires-3
+    has-requires-4
+    either-requires-2
+    either-requires-3
+    returns)
