@@ -1,0 +1,17 @@
+use Rattle.gate.proofs.is_awake.Statement.{statement}
+use Rattle.gate.proofs.is_awake.Tie as tie
+
+needs-requires : tie.Need-needs-requires
+needs-requires c κs = tt
+
+either-requires : tie.Need-either-requires
+either-requires c κs = tt
+
+checked-requires : tie.Need-checked-requires
+checked-requires c κs = tt
+
+returns : tie.Need-returns
+returns c = cc
+
+pub is-awake-spec : {M : Type 1} → statement M
+is-awake-spec = tie.close (tie.spec needs-requires either-requires checked-requires returns)
