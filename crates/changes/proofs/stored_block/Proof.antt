@@ -1,0 +1,25 @@
+use mathlib.Core.Path.{sym, ap, ap₂, _∙_}
+use borrow.Author.Needs.{needs}
+use Rattle.changes.proofs.stored_block.Statement.{statement}
+use Rattle.changes.proofs.stored_block.Tie as tie
+
+has-requires : tie.Need-has-requires
+has-requires c κs = tt
+
+value-requires : tie.Need-value-requires
+value-requires c κs = tt
+
+held-requires : tie.Need-held-requires
+held-requires c κs = tt
+
+returns : tie.Need-returns
+returns c = let h = c .before .before in
+    let e = sym (h .before .has .ensures) ∙ h .if1 .taken in
+    rw e (cc)
+
+returns-2 : tie.Need-returns-2
+returns-2 c = let e = sym (c .before .has .ensures) ∙ c .if1 .left in rw e
+
+pub stored-block-spec : {M : Type 1} → statement M
+stored-block-spec =
+    tie.close (tie.spec has-requires value-requires held-requires returns returns-2)
