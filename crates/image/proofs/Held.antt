@@ -1,18 +1,26 @@
--- A card that code holds has its shape: what the type of a parameter or of a result says of its arrays. Assumes nothing.
+-- A card that code holds has its shape: what the type of a parameter (`c .. .good`) or of a call's result (`c .. .ok`) says of its arrays. Assumes nothing.
 use Prim.Native.Nat.{ℕ}
+use mathlib.Core.Path.{_≡_}
 use mathlib.Core.List.{List}
+use lib.ListN.{length}
 use mir.Val.{Val}
 use denote.Laws.{Is}
 use denote.Struct.Declared.{row}
 use borrow.Author.Needs.{length-unmapped}
 use Rattle.card.specs.declared.Codes.{Codes}
 use Rattle.card.specs.declared.Fixed.{Fixed}
+use Rattle.card.specs.declared.Key.{Key}
+use Rattle.card.specs.declared.Block.{Block}
 use Rattle.card.specs.declared.Issuer.{Issuer}
+use Rattle.card.specs.declared.Last.{Last}
 use Rattle.card.specs.declared.Face.{Face}
 use Rattle.card.specs.declared.Card.{Card}
 use Rattle.card.proofs.Codes as codes
 use Rattle.card.proofs.Fixed as fixed
+use Rattle.card.proofs.Key as key
+use Rattle.card.proofs.Block as block
 use Rattle.card.proofs.Issuer as issuer
+use Rattle.card.proofs.Last as last
 use Rattle.card.proofs.Face as face
 use Rattle.card.proofs.Card as card
 use Rattle.image.specs.Shape.{ShapeCodes, ShapeFixed, ShapeIssuer, ShapeFace, Shape}
@@ -33,13 +41,22 @@ fixed-held x vs g =
       cvc = length-unmapped ℕ (x .cvc) 3 (f .1 .0 .1 .0 .1);
     }
 
+pub key-held : (x : Key) (vs : List Val) → Is (row key.the-type) x vs → length (x .bytes) ≡ 65
+key-held x vs g = length-unmapped ℕ (x .bytes) 65 (g .1 .1 .1 .0 .1 .0 .1)
+
+pub block-held : (x : Block) (vs : List Val) → Is (row block.the-type) x vs → length (x .bytes) ≡ 512
+block-held x vs g = length-unmapped ℕ (x .bytes) 512 (g .1 .1 .1 .0 .1 .0 .1)
+
 pub issuer-held : (x : Issuer) (vs : List Val) → Is (row issuer.the-type) x vs → ShapeIssuer x
 issuer-held x vs g =
     let f = g .1 .1 in
     record {
-      block = length-unmapped ℕ (x .block .bytes) 512 (f .0 .1 .1 .1 .0 .1 .0 .1);
+      block = block-held (x .block) _ (f .0);
       signature = length-unmapped ℕ (x .signature) 64 (f .1 .0 .1 .0 .1);
     }
+
+pub last-held : (x : Last) (vs : List Val) → Is (row last.the-type) x vs → length (x .signatures) ≡ 640
+last-held x vs g = length-unmapped ℕ (x .signatures) 640 (g .1 .1 .1 .0 .1 .0 .1)
 
 pub face-held : (x : Face) (vs : List Val) → Is (row face.the-type) x vs → ShapeFace x
 face-held x vs g =
@@ -49,11 +66,11 @@ face-held x vs g =
     let i = u .1 .1 in
     record {
       fixed = fixed-held (x .fixed) _ (f .0);
-      key = length-unmapped ℕ (x .key .bytes) 65 (k .0 .1 .1 .1 .0 .1 .0 .1);
-      user = length-unmapped ℕ (x .user .bytes) 512 (u .0 .1 .1 .1 .0 .1 .0 .1);
-      protected = length-unmapped ℕ (x .protected .bytes) 512 (u .1 .0 .1 .1 .1 .0 .1 .0 .1);
+      key = key-held (x .key) _ (k .0);
+      user = block-held (x .user) _ (u .0);
+      protected = block-held (x .protected) _ (u .1 .0);
       issuer = issuer-held (x .issuer) _ (i .0);
-      last = length-unmapped ℕ (x .last .signatures) 640 (i .1 .0 .1 .1 .1 .0 .1 .0 .1);
+      last = last-held (x .last) _ (i .1 .0);
     }
 
 pub card-held : (c : Card) (vs : List Val) → Is (row card.the-type) c vs → Shape c
