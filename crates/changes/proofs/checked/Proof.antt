@@ -1,4 +1,3 @@
-use borrow.Author.Needs.{needs}
 use Rattle.changes.proofs.checked.Statement.{statement}
 use Rattle.changes.proofs.checked.Tie as tie
 

@@ -1,5 +1,4 @@
 use borrow.Author.Tests.{eq-eqb, ne-eqb}
-use borrow.Author.Needs.{needs}
 use Rattle.changes.proofs.kept_counter.Statement.{statement}
 use Rattle.changes.proofs.kept_counter.Tie as tie
 

@@ -1,4 +1,3 @@
-use borrow.Author.Needs.{needs}
 use Rattle.changes.proofs.new_codes.Statement.{statement}
 use Rattle.changes.proofs.new_codes.Tie as tie
 

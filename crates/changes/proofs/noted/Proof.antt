@@ -1,4 +1,3 @@
-use borrow.Author.Needs.{needs}
 use Rattle.changes.proofs.noted.Statement.{statement}
 use Rattle.changes.proofs.noted.Tie as tie
 

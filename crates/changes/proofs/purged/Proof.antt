@@ -1,4 +1,4 @@
-use mathlib.Core.Path.{sym, ap, ap₂, _∙_}
+use mathlib.Core.Path.{ap, ap₂, _∙_}
 use Rattle.card.specs.Values.{withKey, withWallet}
 use borrow.Author.Needs.{needs}
 use Rattle.changes.proofs.purged.Statement.{statement}

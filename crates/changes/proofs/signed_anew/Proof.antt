@@ -1,4 +1,4 @@
-use mathlib.Core.Path.{sym, ap, ap₂, _∙_}
+use mathlib.Core.Path.{ap, ap₂, _∙_}
 use Rattle.card.specs.Values.{withLast, withCounters, withWallet}
 use Rattle.changes.proofs.Laws.{spent-kept}
 use borrow.Author.Needs.{needs}

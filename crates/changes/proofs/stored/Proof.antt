@@ -1,6 +1,5 @@
-use mathlib.Core.Path.{sym, ap, ap₂, _∙_}
+use mathlib.Core.Path.{ap, ap₂, _∙_}
 use Rattle.card.specs.Values.{withCounters, withProtected, withUser}
-use borrow.Author.Needs.{needs}
 use Rattle.changes.proofs.stored.Statement.{statement}
 use Rattle.changes.proofs.stored.Tie as tie
 

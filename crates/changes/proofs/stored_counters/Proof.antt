@@ -1,4 +1,3 @@
-use borrow.Author.Needs.{needs}
 use Rattle.changes.proofs.stored_counters.Statement.{statement}
 use Rattle.changes.proofs.stored_counters.Tie as tie
 

@@ -1,5 +1,4 @@
-use mathlib.Core.Path.{sym, ap, ap₂, _∙_}
-use borrow.Author.Needs.{needs}
+use mathlib.Core.Path.{sym, _∙_}
 use Rattle.changes.proofs.stored_number.Statement.{statement}
 use Rattle.changes.proofs.stored_number.Tie as tie
 

@@ -1,4 +1,3 @@
-use borrow.Author.Needs.{needs}
 use Rattle.changes.proofs.validated.Statement.{statement}
 use Rattle.changes.proofs.validated.Tie as tie
 

@@ -1,0 +1,45 @@
+use native.Mathlib.Omega.{arith}
+use borrow.Author.Tests.{eq-eqb, ne-eqb}
+use Rattle.manual.specs.Wallet.{curveName}
+use borrow.Author.Needs.{needs}
+use Rattle.tells.proofs.put_curve.Statement.{statement}
+use Rattle.tells.proofs.put_curve.Tie as tie
+
+slice-aggregate-put-field : tie.Need-slice-aggregate-put-field
+slice-aggregate-put-field c = search needs
+
+put-field-requires : tie.Need-put-field-requires
+put-field-requires c κs = tt
+
+same-length : tie.Need-same-length
+same-length c = search needs
+
+returns : tie.Need-returns
+unfolding curveName
+returns c = let i = c .before .before .before .before .before in rw (eq-eqb _ _ (i .if1 .taken)) (c .before .before .put-field .ensures, omega arith)
+
+slice-aggregate-put-field-2 : tie.Need-slice-aggregate-put-field-2
+slice-aggregate-put-field-2 c = search needs
+
+put-field-requires-2 : tie.Need-put-field-requires-2
+put-field-requires-2 c κs = tt
+
+same-length-2 : tie.Need-same-length-2
+same-length-2 c = search needs
+
+returns-2 : tie.Need-returns-2
+unfolding curveName
+returns-2 c = let i = c .before .before .before .before .before in rw (ne-eqb _ _ (i .if1 .left)) (c .before .before .put-field2 .ensures, omega arith)
+
+pub put-curve-spec : {M : Type 1} → statement M
+put-curve-spec =
+    tie.close
+    (tie.spec
+    slice-aggregate-put-field
+    put-field-requires
+    same-length
+    returns
+    slice-aggregate-put-field-2
+    put-field-requires-2
+    same-length-2
+    returns-2)
