@@ -39,13 +39,16 @@ fn write_fixed(x: Fixed, out: &mut [u8], at: usize) -> usize
 fn write_flags(x: Flags, out: &mut [u8], at: usize) -> usize
     ensures { λ r. ⌜ (Runs (now (out .entry)) at (encFlags x) (now (out .exit)) r) × (length (encFlags x) ≡ 7) ⌝ }
 {
-    let a = wire::put8(out, at, x.reusable);
-    let b = wire::put8(out, a, x.usecvc);
-    let c = wire::put8(out, b, x.setpin1);
-    let d = wire::put8(out, c, x.setpin2);
-    let e = wire::put8(out, d, x.nopurge);
-    let f = wire::put8(out, e, x.replay);
-    wire::put8(out, f, x.active)
+    let bytes = [
+        x.reusable,
+        x.usecvc,
+        x.setpin1,
+        x.setpin2,
+        x.nopurge,
+        x.replay,
+        x.active,
+    ];
+    wire::put_bytes(out, at, &bytes)
 }
 
 fn write_wallet(x: Wallet, out: &mut [u8], at: usize) -> usize
