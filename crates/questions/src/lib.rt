@@ -128,18 +128,17 @@ fn pose_sign(face: Face, p: &[u8], out: &mut [u8]) -> usize
     0
 }
 
+// F3: Challenge and Salt by the card key.
 fn pose_verify(face: Face, p: &[u8], draw: &[u8], out: &mut [u8]) -> usize
     ensures { λ r. ⌜ Asking (verifyCard .fields face (now (p .entry))) (now (out .entry)) (verifyCard .questions face (now (p .entry)) (now (draw .entry))) (now (out .exit)) r ⌝ }
 {
-    let challenge = fields::value(p, 0x16);
-    let salt = wire::part(draw, 0, 16);
     put_two(
         out,
         SIGN_BY_CARD,
         face.wallet.number,
         face.fixed.curve,
-        challenge,
-        salt,
+        fields::value(p, 0x16),
+        wire::part(draw, 0, 16),
     )
 }
 

@@ -24,13 +24,13 @@ returns : tie.Need-returns
 unfolding verifyCard
 returns c =
     let t = c .before .before in
-    let v = t .before .before .before in
-    let x = v .before .before .before .before .args in
+    let v = t .before .before in
+    let x = v .before .before .before .before .before .args in
     let p = now (x .p) in
     let n = x .face .wallet .number in
     let k = x .face .fixed .curve in
     record {
-      list = all-as (ap₂ (λ a b. eachAsked (question 4 n k (a ∷ b ∷ []) ∷ [])) (v .value .ensures) (t .before .before .part .ensures)) (t .put-two .ensures);
+      list = all-as (ap₂ (λ a b. eachAsked (question 4 n k (a ∷ b ∷ []) ∷ [])) (v .value .ensures) (t .before .part .ensures)) (t .put-two .ensures);
       small = λ f. pair-small 4 n k p (now (x .draw)) f;
     }
 
