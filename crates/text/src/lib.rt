@@ -5,6 +5,8 @@ ghost use lib.ListN.{length};
 ghost use Rattle.wire.specs.Wire.{put, Wrote};
 ghost use Rattle.text.specs.Text.{hexValue, isHex, pairValue, unhex, hexDigit, hexOf, isDigit, isDigits, decimal, plainDecimal, fitting, numberOf, decimalOf};
 
+pub mod lines;
+
 // What a text says as a number.
 pub enum Number {
     Is(u32),

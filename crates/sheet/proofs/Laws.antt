@@ -1,0 +1,50 @@
+-- The walk over the lines of a sheet, and a line's row. Assumes nothing.
+use Prim.Native.Nat.{ℕ, zero, suc, _+_, _-_, _≤_, _<_}
+use native.Mathlib.Omega.{arith}
+use native.Mathlib.Numerals.{add-one}
+use native.Mathlib.Decide.{decLt}
+use mathlib.Core.Path.{_≡_, refl, sym, ap, _∙_}
+use mathlib.Core.List.{List, [], _∷_}
+use mathlib.Core.Bool.{Bool, true, false, cond, _&&_}
+use lib.ListN.{length, drop, getD, List·getD-eq-default}
+use lib.Dec.{ltb}
+use Rattle.wire.specs.Wire.{alike}
+use Rattle.text.specs.Lines.{startOf, fromLine}
+use Rattle.sheet.specs.Sheet.{Row, rows, noRow, rowOf, goodRow, goodLine, badFrom}
+
+module _ (k : ℕ) (s : List ℕ) (h : 1 ≤ k) (h′ : k ≤ 13) where
+  pub bad-here : goodLine k (fromLine k s) ≡ false → badFrom (14 - k) k s ≡ k
+  unfolding badFrom
+  bad-here e = let n : 14 - k ≡ suc (13 - k) = omega arith in rw (n, e)
+
+  pub bad-on : goodLine k (fromLine k s) ≡ true → badFrom (14 - k) k s ≡ badFrom (14 - (k + 1)) (k + 1) s
+  unfolding badFrom
+  bad-on e = let n : 14 - k ≡ suc (14 - suc k) = omega arith in rw (n, e, add-one)
+
+pub bad-end : (k : ℕ) (s : List ℕ) → k ≡ 14 → badFrom (14 - k) k s ≡ cond (ltb (startOf k s) (length s)) k 0
+unfolding badFrom
+bad-end k s e = rw e
+
+-- one more number is ruled out
+pub past : (n : ℕ) {k : ℕ} → n ≤ k → (k ≡ n → ⊥) → suc n ≤ k
+past n {k} h f = go (decLt n k)
+  where
+    go : Dec (n < k) → suc n ≤ k
+    go (yes x) = x
+    go (no x) = absurd (f (omega (arith, x)))
+
+-- a number that is no line's has no row
+and-false : (b : Bool) → (b && false) ≡ false
+and-false true = refl
+and-false false = refl
+
+pub no-row : (k : ℕ) (name value : List ℕ) → (1 ≤ k → k ≤ 13 → ⊥) → goodRow k name value ≡ false
+unfolding goodRow rowOf rows noRow
+no-row zero name value f = and-false (alike name [])
+no-row (suc k) name value f =
+    let h : 13 ≤ k = above (decLt k 13) in
+    rw (List·getD-eq-default rows noRow h) (and-false (alike name []))
+  where
+    above : Dec (k < 13) → 13 ≤ k
+    above (yes x) = absurd (f (omega arith) (omega arith))
+    above (no x) = omega (arith, x)

@@ -1,0 +1,41 @@
+use Rattle.sheet.specs.Sheet.{curveOf}
+use mathlib.Core.Path.{sym, _∙_}
+use borrow.Author.Needs.{needs}
+use Rattle.sheet.proofs.curve_of.Statement.{statement}
+use Rattle.sheet.proofs.curve_of.Tie as tie
+
+slice-aggregate-equal : tie.Need-slice-aggregate-equal
+slice-aggregate-equal c = search needs
+
+equal-requires : tie.Need-equal-requires
+equal-requires c κs = tt
+
+returns : tie.Need-returns
+unfolding curveOf
+returns c = rw (sym (c .before .equal .ensures) ∙ c .if1 .taken)
+
+slice-aggregate-equal-2 : tie.Need-slice-aggregate-equal-2
+slice-aggregate-equal-2 c = search needs
+
+equal-requires-2 : tie.Need-equal-requires-2
+equal-requires-2 c κs = tt
+
+returns-2 : tie.Need-returns-2
+unfolding curveOf
+returns-2 c = rw (sym (c .before .before .before .before .equal .ensures) ∙ c .before .before .before .if1 .left, sym (c .before .equal2 .ensures) ∙ c .if2 .taken)
+
+returns-3 : tie.Need-returns-3
+unfolding curveOf
+returns-3 c = rw (sym (c .before .before .before .before .equal .ensures) ∙ c .before .before .before .if1 .left, sym (c .before .equal2 .ensures) ∙ c .if2 .left)
+
+pub curve-of-spec : {M : Type 1} → statement M
+curve-of-spec =
+    tie.close
+    (tie.spec
+    slice-aggregate-equal
+    equal-requires
+    returns
+    slice-aggregate-equal-2
+    equal-requires-2
+    returns-2
+    returns-3)

@@ -1,0 +1,80 @@
+use mathlib.Core.List.{List}
+use Rattle.sheet.specs.Sheet.{goodLine, badFrom, firstBad}
+use Rattle.sheet.proofs.Laws.{bad-here, bad-on, bad-end}
+use Rattle.text.specs.Lines.{nextLine, startOf, fromLine}
+use mathlib.Core.Path.{_≡_, refl, sym, ap, ap₂, _∙_}
+use denote.Ref.{now}
+use Prim.Native.Nat.{ℕ, _+_, _-_, _≤_}
+use mathlib.Core.Bool.{cond}
+use lib.ListN.{length, drop}
+use lib.Dec.{ltb}
+use borrow.Author.Tests.{not-true, not-false}
+use Rattle.text.proofs.LineLaws.{start-next}
+use native.Mathlib.Omega.{arith}
+use Rattle.sheet.proofs.first_bad.Statement.{statement}
+use Rattle.sheet.proofs.first_bad.Tie as tie
+
+from : (k at : ℕ) (s : List ℕ) → at ≡ startOf k s → drop at s ≡ fromLine k s
+unfolding fromLine
+from k at s e = ap (λ (n : ℕ). drop n s) e
+
+abbrev Inv-loop : tie.InvT-loop
+Inv-loop sheet at₀ line₀ at line = (1 ≤ line) × (line ≤ 14) × (at ≡ startOf line sheet) × (firstBad sheet ≡ badFrom (14 - line) line sheet)
+
+abbrev μ-loop : tie.MeasureT-loop
+μ-loop sheet at₀ line₀ at line = 14 - line
+
+loop-holds : tie.Need-loop-holds Inv-loop μ-loop
+unfolding firstBad startOf
+loop-holds c = (omega arith, omega arith, refl, refl)
+
+after-last-requires : tie.Need-after-last-requires Inv-loop μ-loop
+after-last-requires c κs = tt
+
+rest-requires : tie.Need-rest-requires Inv-loop μ-loop
+rest-requires c κs = tt
+
+good-line-requires : tie.Need-good-line-requires Inv-loop μ-loop
+good-line-requires c κs = tt
+
+next-line-requires : tie.Need-next-line-requires Inv-loop μ-loop
+next-line-requires c κs = tt
+
+add-line : tie.Need-add-line Inv-loop μ-loop
+add-line c = omega arith
+
+loop-less : tie.Need-loop-less Inv-loop μ-loop
+loop-less c = omega arith
+
+loop-again : tie.Need-loop-again Inv-loop μ-loop
+loop-again c = let g = c .before .before in let l = g .before .before .before .loop in let s = now (g .before .before .before .before .before .args .sheet) in
+    let h : l .line ≤ 13 = omega arith in
+    let e = sym (g .good-line .ensures ∙ ap (goodLine (l .line)) (g .before .rest .ensures ∙ from (l .line) (l .at) s (l .inv .2))) ∙ not-false _ (c .before .if2 .left) in
+    (omega arith, omega arith, c .next-line .ensures ∙ ap (nextLine s) (l .inv .2) ∙ sym (start-next (l .line) s (l .inv .0)), l .inv .3 ∙ bad-on (l .line) s (l .inv .0) h e)
+
+returns : tie.Need-returns Inv-loop μ-loop
+returns c = let l = c .before .before .loop in let s = now (c .before .before .before .before .args .sheet) in
+    c .after-last .ensures ∙ ap (λ (n : ℕ). cond (ltb n (length s)) (l .line) 0) (l .inv .2) ∙ sym (l .inv .3 ∙ bad-end (l .line) s (omega arith))
+
+returns-2 : tie.Need-returns-2 Inv-loop μ-loop
+returns-2 c = let g = c .before in let l = g .before .before .before .loop in let s = now (g .before .before .before .before .before .args .sheet) in
+    let h : l .line ≤ 13 = omega arith in
+    let e = sym (g .good-line .ensures ∙ ap (goodLine (l .line)) (g .before .rest .ensures ∙ from (l .line) (l .at) s (l .inv .2))) ∙ not-true _ (c .if2 .taken) in
+    sym (l .inv .3 ∙ bad-here (l .line) s (l .inv .0) h e)
+
+pub first-bad-spec : {M : Type 1} → statement M
+first-bad-spec =
+    tie.close
+    (tie.spec
+    Inv-loop
+    μ-loop
+    loop-holds
+    after-last-requires
+    rest-requires
+    good-line-requires
+    next-line-requires
+    add-line
+    loop-less
+    loop-again
+    returns
+    returns-2)

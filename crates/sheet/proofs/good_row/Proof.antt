@@ -1,0 +1,187 @@
+use Prim.Native.Nat.{_≤_}
+use Rattle.sheet.specs.Sheet.{rows, rowOf, goodRow}
+use Rattle.sheet.proofs.Laws.{past, no-row}
+use mathlib.Core.Path.{sym}
+use native.Mathlib.Omega.{arith}
+use borrow.Author.Needs.{needs}
+use Rattle.sheet.proofs.good_row.Statement.{statement}
+use Rattle.sheet.proofs.good_row.Tie as tie
+
+slice-aggregate-hex-row : tie.Need-slice-aggregate-hex-row
+slice-aggregate-hex-row c = search needs
+
+hex-row-requires : tie.Need-hex-row-requires
+hex-row-requires c κs = tt
+
+slice-aggregate-hex-row-2 : tie.Need-slice-aggregate-hex-row-2
+slice-aggregate-hex-row-2 c = search needs
+
+hex-row-requires-2 : tie.Need-hex-row-requires-2
+hex-row-requires-2 c κs = tt
+
+slice-aggregate-hex-row-3 : tie.Need-slice-aggregate-hex-row-3
+slice-aggregate-hex-row-3 c = search needs
+
+hex-row-requires-3 : tie.Need-hex-row-requires-3
+hex-row-requires-3 c κs = tt
+
+slice-aggregate-cvc-row : tie.Need-slice-aggregate-cvc-row
+slice-aggregate-cvc-row c = search needs
+
+cvc-row-requires : tie.Need-cvc-row-requires
+cvc-row-requires c κs = tt
+
+slice-aggregate-curve-row : tie.Need-slice-aggregate-curve-row
+slice-aggregate-curve-row c = search needs
+
+curve-row-requires : tie.Need-curve-row-requires
+curve-row-requires c κs = tt
+
+slice-aggregate-max-row : tie.Need-slice-aggregate-max-row
+slice-aggregate-max-row c = search needs
+
+max-row-requires : tie.Need-max-row-requires
+max-row-requires c κs = tt
+
+slice-aggregate-flag-row : tie.Need-slice-aggregate-flag-row
+slice-aggregate-flag-row c = search needs
+
+flag-row-requires : tie.Need-flag-row-requires
+flag-row-requires c κs = tt
+
+slice-aggregate-flag-row-2 : tie.Need-slice-aggregate-flag-row-2
+slice-aggregate-flag-row-2 c = search needs
+
+flag-row-requires-2 : tie.Need-flag-row-requires-2
+flag-row-requires-2 c κs = tt
+
+slice-aggregate-flag-row-3 : tie.Need-slice-aggregate-flag-row-3
+slice-aggregate-flag-row-3 c = search needs
+
+flag-row-requires-3 : tie.Need-flag-row-requires-3
+flag-row-requires-3 c κs = tt
+
+slice-aggregate-flag-row-4 : tie.Need-slice-aggregate-flag-row-4
+slice-aggregate-flag-row-4 c = search needs
+
+flag-row-requires-4 : tie.Need-flag-row-requires-4
+flag-row-requires-4 c κs = tt
+
+slice-aggregate-flag-row-5 : tie.Need-slice-aggregate-flag-row-5
+slice-aggregate-flag-row-5 c = search needs
+
+flag-row-requires-5 : tie.Need-flag-row-requires-5
+flag-row-requires-5 c κs = tt
+
+slice-aggregate-flag-row-6 : tie.Need-slice-aggregate-flag-row-6
+slice-aggregate-flag-row-6 c = search needs
+
+flag-row-requires-6 : tie.Need-flag-row-requires-6
+flag-row-requires-6 c κs = tt
+
+slice-aggregate-flag-row-7 : tie.Need-slice-aggregate-flag-row-7
+slice-aggregate-flag-row-7 c = search needs
+
+flag-row-requires-7 : tie.Need-flag-row-requires-7
+flag-row-requires-7 c κs = tt
+
+returns : tie.Need-returns
+unfolding goodRow rowOf rows
+returns c = rw (c .before .before .match .keys1) (c .hex-row .ensures)
+
+returns-2 : tie.Need-returns-2
+unfolding goodRow rowOf rows
+returns-2 c = rw (c .before .before .match .keys2) (c .hex-row2 .ensures)
+
+returns-3 : tie.Need-returns-3
+unfolding goodRow rowOf rows
+returns-3 c = rw (c .before .before .match .keys3) (c .hex-row3 .ensures)
+
+returns-4 : tie.Need-returns-4
+unfolding goodRow rowOf rows
+returns-4 c = rw (c .before .before .match .keys4) (c .cvc-row .ensures)
+
+returns-5 : tie.Need-returns-5
+unfolding goodRow rowOf rows
+returns-5 c = rw (c .before .before .match .keys5) (c .curve-row .ensures)
+
+returns-6 : tie.Need-returns-6
+unfolding goodRow rowOf rows
+returns-6 c = rw (c .before .before .match .keys6) (c .max-row .ensures)
+
+returns-7 : tie.Need-returns-7
+unfolding goodRow rowOf rows
+returns-7 c = rw (c .before .before .match .keys7) (c .flag-row .ensures)
+
+returns-8 : tie.Need-returns-8
+unfolding goodRow rowOf rows
+returns-8 c = rw (c .before .before .match .keys8) (c .flag-row2 .ensures)
+
+returns-9 : tie.Need-returns-9
+unfolding goodRow rowOf rows
+returns-9 c = rw (c .before .before .match .keys9) (c .flag-row3 .ensures)
+
+returns-10 : tie.Need-returns-10
+unfolding goodRow rowOf rows
+returns-10 c = rw (c .before .before .match .keys10) (c .flag-row4 .ensures)
+
+returns-11 : tie.Need-returns-11
+unfolding goodRow rowOf rows
+returns-11 c = rw (c .before .before .match .keys11) (c .flag-row5 .ensures)
+
+returns-12 : tie.Need-returns-12
+unfolding goodRow rowOf rows
+returns-12 c = rw (c .before .before .match .keys12) (c .flag-row6 .ensures)
+
+returns-13 : tie.Need-returns-13
+unfolding goodRow rowOf rows
+returns-13 c = rw (c .before .before .match .keys13) (c .flag-row7 .ensures)
+
+returns-14 : tie.Need-returns-14
+returns-14 c = let r = c .match .rest in let x = c .before .before .before .args in
+    sym (no-row (x .line) _ _ (λ h k. let z : 14 ≤ x .line = past 13 (past 12 (past 11 (past 10 (past 9 (past 8 (past 7 (past 6 (past 5 (past 4 (past 3 (past 2 (past 1 h (r .0 .0 .0 .0 .0 .0 .0 .0 .0 .0 .0 .0 .1)) (r .0 .0 .0 .0 .0 .0 .0 .0 .0 .0 .0 .1)) (r .0 .0 .0 .0 .0 .0 .0 .0 .0 .0 .1)) (r .0 .0 .0 .0 .0 .0 .0 .0 .0 .1)) (r .0 .0 .0 .0 .0 .0 .0 .0 .1)) (r .0 .0 .0 .0 .0 .0 .0 .1)) (r .0 .0 .0 .0 .0 .0 .1)) (r .0 .0 .0 .0 .0 .1)) (r .0 .0 .0 .0 .1)) (r .0 .0 .0 .1)) (r .0 .0 .1)) (r .0 .1)) (r .1) in omega arith))
+
+pub good-row-spec : {M : Type 1} → statement M
+good-row-spec =
+    tie.close
+    (tie.spec
+    slice-aggregate-hex-row
+    hex-row-requires
+    slice-aggregate-hex-row-2
+    hex-row-requires-2
+    slice-aggregate-hex-row-3
+    hex-row-requires-3
+    slice-aggregate-cvc-row
+    cvc-row-requires
+    slice-aggregate-curve-row
+    curve-row-requires
+    slice-aggregate-max-row
+    max-row-requires
+    slice-aggregate-flag-row
+    flag-row-requires
+    slice-aggregate-flag-row-2
+    flag-row-requires-2
+    slice-aggregate-flag-row-3
+    flag-row-requires-3
+    slice-aggregate-flag-row-4
+    flag-row-requires-4
+    slice-aggregate-flag-row-5
+    flag-row-requires-5
+    slice-aggregate-flag-row-6
+    flag-row-requires-6
+    slice-aggregate-flag-row-7
+    flag-row-requires-7
+    returns
+    returns-2
+    returns-3
+    returns-4
+    returns-5
+    returns-6
+    returns-7
+    returns-8
+    returns-9
+    returns-10
+    returns-11
+    returns-12
+    returns-13
+    returns-14)
