@@ -4,13 +4,16 @@ use native.Mathlib.Omega.{arith}
 use native.Mathlib.Numerals.{add-one}
 use native.Mathlib.Decide.{decLt}
 use mathlib.Core.Path.{_≡_, refl, sym, ap, _∙_}
-use mathlib.Core.List.{List, [], _∷_}
+use mathlib.Core.List.{List, [], _∷_, _++_}
 use mathlib.Core.Bool.{Bool, true, false, cond, _&&_}
 use lib.ListN.{length, drop, getD, List·getD-eq-default}
 use lib.Dec.{ltb}
-use Rattle.wire.specs.Wire.{alike}
+use borrow.Author.Tests.{lt-ltb, le-ltb, eq-eqb, ne-eqb}
+use Rattle.wire.specs.Wire.{alike, Wrote}
+use Rattle.wire.proofs.Laws.{runs, front}
+use Rattle.card.specs.Image.{encode}
 use Rattle.text.specs.Lines.{startOf, fromLine}
-use Rattle.sheet.specs.Sheet.{Row, rows, noRow, rowOf, goodRow, goodLine, badFrom}
+use Rattle.sheet.specs.Sheet.{Row, rows, noRow, rowOf, goodRow, goodLine, badFrom, firstBad, sheetCard, Outcome, personalised}
 
 module _ (k : ℕ) (s : List ℕ) (h : 1 ≤ k) (h′ : k ≤ 13) where
   pub bad-here : goodLine k (fromLine k s) ≡ false → badFrom (14 - k) k s ≡ k
@@ -48,3 +51,22 @@ no-row (suc k) name value f =
     above : Dec (k < 13) → 13 ≤ k
     above (yes x) = absurd (f (omega arith) (omega arith))
     above (no x) = omega (arith, x)
+
+-- THE OUTCOME, case by case
+module _ (s out : List ℕ) where
+  pub outcome-short : length out < 4096 → personalised s out ≡ record { answer = 99; image = out }
+  unfolding personalised
+  outcome-short h = rw (lt-ltb _ _ h)
+
+  module _ (h : 4096 ≤ length out) where
+    pub outcome-bad : (firstBad s ≡ 0 → ⊥) → personalised s out ≡ record { answer = firstBad s; image = out }
+    unfolding personalised
+    outcome-bad f = rw (le-ltb _ _ h, ne-eqb _ _ f)
+
+    pub outcome-good : firstBad s ≡ 0 → personalised s out ≡ record { answer = 0; image = encode (sheetCard s) ++ drop 2429 out }
+    unfolding personalised
+    outcome-good e = rw (le-ltb _ _ h, eq-eqb _ _ e)
+
+-- what an image written from the front leaves
+pub written : {v out out′ : List ℕ} {r : ℕ} → Wrote out 0 v out′ r → length v ≡ 2429 → 4096 ≤ length out → out′ ≡ v ++ drop 2429 out
+written {v} {out} w e h = front (runs w) (omega arith) .0 ∙ ap (λ (n : ℕ). v ++ drop n out) e

@@ -2,7 +2,7 @@
 -- Assumes nothing.
 use Prim.Native.Nat.{ℕ, zero, suc}
 use mathlib.Core.Bool.{Bool, true, false, cond, _&&_}
-use mathlib.Core.List.{List, [], _∷_}
+use mathlib.Core.List.{List, [], _∷_, _++_}
 use lib.ListN.{length, drop, getD}
 use lib.Dec.{leb, ltb, eqb}
 use Rattle.wire.specs.Wire.{alike, pad}
@@ -15,6 +15,7 @@ use Rattle.card.specs.declared.Fixed.{Fixed}
 use Rattle.card.specs.declared.Flags.{Flags}
 use Rattle.card.specs.declared.Card.{Card}
 use Rattle.card.specs.Values.{fresh}
+use Rattle.card.specs.Image.{encode}
 
 -- VALUES. So many capital hex digits
 unfoldable pub isHexOf : ℕ → List ℕ → Bool
@@ -119,3 +120,13 @@ sheetFlags s =
 
 unfoldable pub sheetCard : List ℕ → Card
 sheetCard s = fresh (sheetFixed s) (sheetFlags s) (sheetCodes s)
+
+-- THE OUTCOME of the reader: its answer, and what the image buffer then holds. "An image buffer below 4,096 bytes answers 99" before any line is read
+pub record Outcome : Type 0 where
+  pub answer : ℕ
+  pub image : List ℕ
+
+unfoldable pub personalised : List ℕ → List ℕ → Outcome
+personalised s out =
+    cond (ltb (length out) 4096) (record { answer = 99; image = out })
+    (cond (eqb (firstBad s) 0) (record { answer = 0; image = encode (sheetCard s) ++ drop 2429 out }) (record { answer = firstBad s; image = out }))

@@ -12,10 +12,13 @@ ghost use lib.ListN.{length};
 ghost use lib.Dec.{ltb};
 ghost use Rattle.wire.specs.Wire.{alike, pad};
 ghost use Rattle.text.specs.Text.{unhex};
-ghost use Rattle.sheet.specs.Sheet.{isHexOf, isCvc, curveOf, isCurve, countOf, maxOf, isMax, flagOf, isFlag, goodRow, goodLine, firstBad, valueOf, sheetCodes, sheetFixed, sheetFlags, sheetCard};
+ghost use Rattle.sheet.specs.Sheet.{isHexOf, isCvc, curveOf, isCurve, countOf, maxOf, isMax, flagOf, isFlag, goodRow, goodLine, firstBad, valueOf, sheetCodes, sheetFixed, sheetFlags, sheetCard, personalised};
 
 // The lines of a sheet.
 const LINES: u32 = 13;
+
+// The answer for an image buffer that is too short.
+pub const NO_ROOM: u32 = 99;
 
 fn curve_of(v: &[u8]) -> u8
     ensures { λ r. ⌜ r ≡ curveOf (now (v .entry)) ⌝ }
@@ -219,4 +222,20 @@ pub fn card_of(sheet: &[u8]) -> Card
     ensures { λ r. ⌜ r ≡ sheetCard (now (sheet .entry)) ⌝ }
 {
     Card::fresh(fixed_of(sheet), flags_of(sheet), codes_of(sheet))
+}
+
+// Writes the image of the fresh card that the sheet describes, and answers 0; the number of the first bad line, or 99 for a
+// buffer without room for an image, leaves the buffer as it is.
+pub fn personalise(sheet: &[u8], image: &mut [u8]) -> u32
+    ensures { λ r. ⌜ (r ≡ personalised (now (sheet .entry)) (now (image .entry)) .answer) × (now (image .exit) ≡ personalised (now (sheet .entry)) (now (image .entry)) .image) ⌝ }
+{
+    if image.len() < card::IMAGE_ROOM {
+        return NO_ROOM;
+    }
+    let bad = first_bad(sheet);
+    if bad != 0 {
+        return bad;
+    }
+    image::write(card_of(sheet), image);
+    0
 }

@@ -10,7 +10,8 @@ use lib.ListN.{length, take, drop, getD, set, length-append, drop-of-length-le, 
 use lib.Seq.{drop-cons, paste, paste-suc}
 use lib.Dec.{leb, ltb, eqb}
 use borrow.Author.Tests.{lt-ltb, le-ltb, le-leb, lt-leb, eq-eqb, ne-eqb}
-use Rattle.text.specs.Text.{allOf, Bytes, hexValue, isHexDigit, isHex, pairValue, unhex, hexDigit, hexOf, isDigit, isDigits, decimalFrom, decimal, plainDecimal, digitsOf, decimalOf}
+use Rattle.wire.proofs.Parts.{Bytes}
+use Rattle.text.specs.Text.{allOf, hexValue, isHexDigit, isHex, pairValue, unhex, hexDigit, hexOf, isDigit, isDigits, decimalFrom, decimal, plainDecimal, digitsOf, decimalOf}
 
 -- EVERY BYTE
 module _ (p : ℕ → Bool) where

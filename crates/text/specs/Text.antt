@@ -1,5 +1,5 @@
 -- Numbers as text: capital hex digits and decimal digits, 01 "The personalisation sheet". Every definition is total. Assumes nothing.
-use Prim.Native.Nat.{ℕ, zero, suc, _+_, _-_, _*_, _/_, _%_, _<_}
+use Prim.Native.Nat.{ℕ, zero, suc, _+_, _-_, _*_, _/_, _%_}
 use mathlib.Core.Bool.{Bool, true, false, cond, not, _&&_, _||_}
 use mathlib.Core.List.{List, [], _∷_, _++_}
 use lib.ListN.{length, getD}
@@ -11,10 +11,6 @@ use Rattle.text.specs.declared.Number.the-variants.{Is, None}
 unfoldable pub allOf : (ℕ → Bool) → List ℕ → Bool
 allOf p [] = true
 allOf p (b ∷ s) = p b && allOf p s
-
--- a list of bytes, as every slice is
-abbrev pub Bytes : List ℕ → Type 0
-Bytes s = (i : ℕ) → getD s i 0 < 256
 
 -- HEX. The value of a capital hex digit, 0 to 9 and A to F; 16 where it is none
 unfoldable pub hexValue : ℕ → ℕ
