@@ -4,11 +4,13 @@ use native.Mathlib.Omega.{arith}
 use native.Mathlib.Numerals.{add-one}
 use mathlib.Core.Path.{_≡_, refl, sym, ap, ap₂, _∙_}
 use mathlib.Core.List.{List, [], _∷_, _++_}
-use mathlib.Core.Bool.{Bool, true, false, cond}
-use lib.ListN.{length, take, drop, getD, drop-of-length-le}
-use lib.Seq.{drop-cons}
+use mathlib.Core.Bool.{Bool, true, false, cond, not, _&&_}
+use lib.ListN.{length, take, drop, getD, length-append, length-drop, drop-of-length-le}
+use lib.Seq.{drop-cons, take-at, drop-drop, drop-append-add}
 use lib.Dec.{ltb, eqb}
-use borrow.Author.Tests.{lt-ltb, le-ltb, eq-eqb, ne-eqb}
+use borrow.Author.Tests.{lt-ltb, le-ltb, eq-eqb, ne-eqb, not-true}
+use Rattle.wire.proofs.Laws.{both-true}
+use Rattle.text.specs.Text.{allOf}
 use Rattle.text.specs.Lines.{lengthTo, headTo, tailAfter, nextLine, startOf, fromLine, lineOf, ended}
 
 -- THE SCAN for the first b
@@ -43,3 +45,57 @@ pub start-reached : (k i : ℕ) (s : List ℕ) → 1 ≤ i → i ≤ max 1 k →
 unfolding startOf
 start-reached zero i s h h₁ h₂ = let e : i ≡ 1 = omega arith in rw e
 start-reached (suc k) i s h h₁ h₂ = let e : i ≡ suc k = omega arith in ap (λ (n : ℕ). startOf n s) e
+
+-- TEXT PUT TOGETHER: what b does not stand in, with a b after it. An element that is not b:
+abbrev pub other : ℕ → ℕ → Bool
+other b x = not (eqb x b)
+
+-- a text that passes a test which b fails holds no b
+pub all-other : (p : ℕ → Bool) (b : ℕ) → p b ≡ false → (l : List ℕ) → allOf p l ≡ true → allOf (other b) l ≡ true
+unfolding allOf
+all-other p b e [] h = refl
+all-other p b e (x ∷ l) h =
+    let h₁ = both-true (p x) (allOf p l) h in
+    let f : eqb x b ≡ false = ne-eqb x b (λ z. absurd (clash (sym e ∙ ap p (sym z) ∙ h₁ .0))) in
+    rw f (all-other p b e l (h₁ .1))
+  where
+    clash : false ≡ true → ⊥
+    clash q = let z : _≡_ {A = ℕ} 0 1 = cc in omega arith
+
+module _ (b : ℕ) where
+  pub scan-past : (l t : List ℕ) → allOf (other b) l ≡ true → lengthTo b (l ++ (b ∷ t)) ≡ length l
+  unfolding allOf lengthTo
+  scan-past [] t h = rw (eq-eqb b b refl)
+  scan-past (x ∷ l) t h =
+      let h₁ = both-true (other b x) (allOf (other b) l) h in
+      rw (not-true (eqb x b) (h₁ .0)) (ap suc (scan-past l t (h₁ .1)))
+
+  pub head-past : (l t : List ℕ) → allOf (other b) l ≡ true → headTo b (l ++ (b ∷ t)) ≡ l
+  unfolding headTo
+  head-past l t h = take-at l (b ∷ t) (lengthTo b (l ++ (b ∷ t))) (sym (scan-past l t h))
+
+  pub tail-past : (l t : List ℕ) → allOf (other b) l ≡ true → tailAfter b (l ++ (b ∷ t)) ≡ t
+  unfolding tailAfter
+  tail-past l t h = ap (λ (n : ℕ). drop (n + 1) (l ++ (b ∷ t))) (scan-past l t h) ∙ drop-append-add l (b ∷ t) 1
+
+pub ended-past : (l t : List ℕ) → allOf (other 10) l ≡ true → ended (l ++ (10 ∷ t)) ≡ true
+unfolding ended
+ended-past l t h = rw (head-past 10 l t h) (lt-ltb _ _ (shorter l t))
+  where
+    shorter : (l t : List ℕ) → length l < length (l ++ (10 ∷ t))
+    shorter l t = omega (arith, length-append l (10 ∷ t))
+
+-- the text after a line
+pub next-from : (k : ℕ) (s l t : List ℕ) → 1 ≤ k → allOf (other 10) l ≡ true → fromLine k s ≡ l ++ (10 ∷ t) → fromLine (k + 1) s ≡ t
+unfolding fromLine nextLine
+next-from k s l t h o e =
+    let at = startOf k s in
+    let n : length (drop at s) ≡ length l + suc (length t) = ap length e ∙ length-append l (10 ∷ t) in
+    let i : at < length s = omega (arith, length-drop at s) in
+    let z : at + length l + 1 ≡ at + (length l + 1) = omega arith in
+    rw (start-next k s h, lt-ltb _ _ i, e, scan-past 10 l t o, z) (sym (drop-drop (length l + 1) at s) ∙ ap (drop (length l + 1)) e ∙ drop-append-add l (10 ∷ t) 1)
+
+-- where nothing is left, no line starts
+pub none-left : (k : ℕ) (s : List ℕ) → fromLine k s ≡ [] → length s ≤ startOf k s
+unfolding fromLine
+none-left k s e = let n : length (drop (startOf k s) s) ≡ 0 = ap length e in omega (arith, length-drop (startOf k s) s)

@@ -34,9 +34,10 @@ same-length c = search needs
 
 returns-3 : tie.Need-returns-3
 returns-3 c = let w = c .before .before in let k = w .before .before in let b = k .before .before in let x = b .before .before .before .before .args in
-    let e = outcome-good (now (x .sheet)) (now (x .image)) (b .before .if1 .left) (sym (b .first-bad .ensures) ∙ k .before .if2 .left) in
-    (ap (λ (o : Outcome). o .answer) (sym e),
-      written (w .write .ensures .0) (w .write .ensures .1) (b .before .if1 .left) ∙ ap (λ (y : Card). encode y ++ drop 2429 (now (x .image))) (k .card-of .ensures) ∙ ap (λ (o : Outcome). o .image) (sym e))
+    let e = outcome-good (now (x .sheet)) (now (x .image)) (b .before .if1 .left) (sym (b .first-bad .ensures) ∙ k .before .if2 .left) in (
+      ap (λ (o : Outcome). o .answer) (sym e),
+      written (w .write .ensures .0) (w .write .ensures .1) (b .before .if1 .left) ∙ ap (λ (y : Card). encode y ++ drop 2429 (now (x .image))) (k .card-of .ensures) ∙ ap (λ (o : Outcome). o .image) (sym e),
+    )
 
 pub personalise-spec : {M : Type 1} → statement M
 personalise-spec =
