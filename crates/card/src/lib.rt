@@ -121,7 +121,7 @@ impl Wallet {
         Wallet {
             status: self.status,
             number: self.number,
-            remaining: less_one(self.remaining),
+            remaining: less(self.remaining, 1),
             signed: std::num::wrapping_add_u32(self.signed, hashes),
         }
     }
@@ -148,23 +148,17 @@ fn after_purge(reusable: u8) -> u8
     PURGED
 }
 
-fn less_one(n: u32) -> u32
-    ensures { λ r. ⌜ r ≡ n - 1 ⌝ }
+fn less(n: u32, by: u32) -> u32
+    ensures { λ r. ⌜ r ≡ n - by ⌝ }
 {
-    if n == 0 {
-        return 0;
-    }
-    n - 1
+    if n < by { 0 } else { n - by }
 }
 
 // One more, and the top stays.
 fn one_more(n: u32) -> u32
     ensures { λ r. ⌜ r ≡ cond (ltb n 4294967295) (n + 1) n ⌝ }
 {
-    if n < 4294967295 {
-        return n + 1;
-    }
-    n
+    if n < 4294967295 { n + 1 } else { n }
 }
 
 impl Counters {

@@ -58,13 +58,12 @@ fn validated(face: Face) -> Face
     face.with_counters(counters.validated())
 }
 
+// The last signatures again: no change.
 fn signed(face: Face, p: &[u8], answers: &[u8]) -> Face
     ensures { λ r. ⌜ r ≡ cond (isNew (now (p .entry))) (signedFace face (count (now (p .entry))) (now (answers .entry))) face ⌝ }
 {
-    if request::is_new(p) {
-        return signed_anew(face, request::hash_count(p), answers);
-    }
-    face
+    let anew = signed_anew(face, request::hash_count(p), answers);
+    if request::is_new(p) { anew } else { face }
 }
 
 fn signed_anew(face: Face, n: usize, answers: &[u8]) -> Face
@@ -128,13 +127,16 @@ fn stored(face: Face, p: &[u8]) -> Face
     b.with_counters(stored_counters(p, counters))
 }
 
+// The counter is stored only if protected.
 fn kept_counter(face: Face, p: &[u8]) -> u32
     ensures { λ r. ⌜ r ≡ keptCounter face (now (p .entry)) ⌝ }
 {
+    let sent = request::sent_counter(p);
     if face.flags.replay == 1 {
-        return request::sent_counter(p);
+        sent
+    } else {
+        face.issuer.counter
     }
-    face.issuer.counter
 }
 
 fn noted(face: Face, p: &[u8]) -> Face

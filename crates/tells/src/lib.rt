@@ -171,12 +171,12 @@ fn tell_checked(
 ) -> usize
     ensures { λ r. ⌜ Told 1200 (now (out .entry)) at (checkedFields face (now (p .entry)) (now (draw .entry)) (now (answers .entry))) (now (out .exit)) r ⌝ }
 {
-    let a = put_part(out, at, 0x17, draw, 0, 16);
-    let b = put_part(out, a, 0x61, answers, 0, 64);
+    let salted = put_part(out, at, 0x17, draw, 0, 16);
+    let signed = put_part(out, salted, 0x61, answers, 0, 64);
     if fields::has(p, 0x14) {
-        return tell_key(face, p, draw, answers, out, b);
+        return tell_key(face, p, draw, answers, out, signed);
     }
-    b
+    signed
 }
 
 // With tag 14.

@@ -6,7 +6,7 @@ sent-counter-requires : tie.Need-sent-counter-requires
 sent-counter-requires c κs = tt
 
 returns : tie.Need-returns
-returns c = rw (eq-eqb _ _ (c .before .if1 .taken)) (c .sent-counter .ensures)
+returns c = rw (eq-eqb _ _ (c .if1 .taken)) (c .before .before .sent-counter .ensures)
 
 returns-2 : tie.Need-returns-2
 returns-2 c = rw (ne-eqb _ _ (c .if1 .left))
