@@ -21,7 +21,7 @@ both-requires : tie.Need-both-requires
 both-requires c κs = tt
 
 returns : tie.Need-returns
-returns c = cc
+returns c = rw (c .before .whole-hashes .ensures, c .before .before .value2 .ensures, c .before .before .before .equal .ensures, c .before .before .before .before .before .value .ensures) at (c .both .ensures)
 
 pub hashes-right-spec : {M : Type 1} → statement M
 hashes-right-spec =

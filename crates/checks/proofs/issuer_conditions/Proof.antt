@@ -11,7 +11,7 @@ either-requires : tie.Need-either-requires
 either-requires c κs = tt
 
 returns : tie.Need-returns
-returns c = cc
+returns c = rw (c .before .before .sent-counter .ensures, c .before .before .before .unless .ensures) at (c .either .ensures)
 
 pub issuer-conditions-spec : {M : Type 1} → statement M
 issuer-conditions-spec =

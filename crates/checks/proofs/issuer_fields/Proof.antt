@@ -20,7 +20,7 @@ both-requires-2 : tie.Need-both-requires-2
 both-requires-2 c κs = tt
 
 returns : tie.Need-returns
-returns c = cc
+returns c = rw (c .before .both .ensures, c .before .before .issuer-proof .ensures, c .before .before .before .mode-ok .ensures, c .before .before .before .before .is-data .ensures, c .before .before .before .before .before .value .ensures) at (c .both2 .ensures)
 
 pub issuer-fields-spec : {M : Type 1} → statement M
 issuer-fields-spec =

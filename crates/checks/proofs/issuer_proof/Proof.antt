@@ -17,7 +17,7 @@ both-requires : tie.Need-both-requires
 both-requires c κs = tt
 
 returns : tie.Need-returns
-returns c = cc
+returns c = rw (c .before .either .ensures, c .before .before .unless .ensures, c .before .before .before .value2 .ensures, c .before .before .before .before .value .ensures) at (c .both .ensures)
 
 pub issuer-proof-spec : {M : Type 1} → statement M
 issuer-proof-spec =

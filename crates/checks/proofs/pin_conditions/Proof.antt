@@ -11,7 +11,7 @@ both-requires : tie.Need-both-requires
 both-requires c κs = tt
 
 returns : tie.Need-returns
-returns c = cc
+returns c = rw (c .before .either2 .ensures, c .before .before .before .either .ensures) at (c .both .ensures)
 
 pub pin-conditions-spec : {M : Type 1} → statement M
 pin-conditions-spec = tie.close (tie.spec either-requires either-requires-2 both-requires returns)

@@ -11,7 +11,7 @@ both-requires : tie.Need-both-requires
 both-requires c κs = tt
 
 returns : tie.Need-returns
-returns c = cc
+returns c = rw (c .before .value2 .ensures, c .before .before .value .ensures) at (c .both .ensures)
 
 pub pin-fields-spec : {M : Type 1} → statement M
 pin-fields-spec = tie.close (tie.spec value-requires value-requires-2 both-requires returns)

@@ -19,7 +19,7 @@ both-requires : tie.Need-both-requires
 both-requires c κs = tt
 
 returns : tie.Need-returns
-returns c = let n = c .before .before .before .before in rw (sym (n .before .is-new .ensures) ∙ n .if1 .taken) (cc)
+returns c = let n = c .before .before .before .before in rw (sym (n .before .is-new .ensures) ∙ n .if1 .taken) (rw (c .before .before .hash-count .ensures .0) at (c .both .ensures))
 
 returns-2 : tie.Need-returns-2
 returns-2 c = rw (sym (c .before .before .is-new .ensures) ∙ c .before .if1 .left)

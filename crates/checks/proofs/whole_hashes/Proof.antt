@@ -8,7 +8,7 @@ both-requires-2 : tie.Need-both-requires-2
 both-requires-2 c κs = tt
 
 returns : tie.Need-returns
-returns c = cc
+returns c = rw (c .before .both .ensures) at (c .both2 .ensures)
 
 pub whole-hashes-spec : {M : Type 1} → statement M
 whole-hashes-spec = tie.close (tie.spec both-requires both-requires-2 returns)

@@ -8,7 +8,7 @@ checked-requires : tie.Need-checked-requires
 checked-requires c κs = tt
 
 returns : tie.Need-returns
-returns c = cc
+returns c = rw (c .before .conditions-ok .ensures) at (c .checked .ensures)
 
 pub has-conditions-spec : {M : Type 1} → statement M
 has-conditions-spec = tie.close (tie.spec conditions-ok-requires checked-requires returns)

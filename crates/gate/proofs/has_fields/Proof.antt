@@ -8,7 +8,7 @@ checked-requires : tie.Need-checked-requires
 checked-requires c κs = tt
 
 returns : tie.Need-returns
-returns c = cc
+returns c = rw (c .before .fields-ok .ensures) at (c .checked .ensures)
 
 pub has-fields-spec : {M : Type 1} → statement M
 has-fields-spec = tie.close (tie.spec fields-ok-requires checked-requires returns)

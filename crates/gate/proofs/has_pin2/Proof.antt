@@ -14,7 +14,7 @@ checked-requires : tie.Need-checked-requires
 checked-requires c κs = tt
 
 returns : tie.Need-returns
-returns c = cc
+returns c = rw (c .before .either .ensures, c .before .before .unless .ensures, c .before .before .before .needs-pin2 .ensures) at (c .checked .ensures)
 
 pub has-pin2-spec : {M : Type 1} → statement M
 has-pin2-spec =

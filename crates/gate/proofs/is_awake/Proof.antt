@@ -11,7 +11,7 @@ checked-requires : tie.Need-checked-requires
 checked-requires c κs = tt
 
 returns : tie.Need-returns
-returns c = cc
+returns c = rw (c .before .either .ensures, c .before .before .before .needs .ensures) at (c .checked .ensures)
 
 pub is-awake-spec : {M : Type 1} → statement M
 is-awake-spec = tie.close (tie.spec needs-requires either-requires checked-requires returns)

@@ -8,7 +8,7 @@ checked-requires : tie.Need-checked-requires
 checked-requires c κs = tt
 
 returns : tie.Need-returns
-returns c = cc
+returns c = rw (c .before .get8 .ensures) at (c .checked .ensures)
 
 pub is-class-spec : {M : Type 1} → statement M
 is-class-spec = tie.close (tie.spec get8-requires checked-requires returns)

@@ -16,7 +16,7 @@ checked-requires c κs = tt
 
 returns : tie.Need-returns
 unfolding plain
-returns c = cc
+returns c = rw (c .before .unless .ensures, c .before .before .either .ensures, c .before .before .before .get8 .ensures) at (c .checked .ensures)
 
 pub is-plain-spec : {M : Type 1} → statement M
 is-plain-spec =

@@ -14,7 +14,7 @@ checked-requires : tie.Need-checked-requires
 checked-requires c κs = tt
 
 returns : tie.Need-returns
-returns c = cc
+returns c = rw (c .before .both .ensures, c .before .before .get82 .ensures, c .before .before .before .get8 .ensures) at (c .checked .ensures)
 
 pub no-parameters-spec : {M : Type 1} → statement M
 no-parameters-spec =
