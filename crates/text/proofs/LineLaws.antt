@@ -36,6 +36,11 @@ length-to-within b (x ∷ s) = go (eqb x b) (length-to-within b s)
     go true h = omega arith
     go false h = omega arith
 
+-- a walk by lines moves on
+pub next-later : (s : List ℕ) (at : ℕ) → at < length s → at < nextLine s at
+unfolding nextLine
+next-later s at h = rw (lt-ltb _ _ h) (omega arith)
+
 pub start-next : (k : ℕ) (s : List ℕ) → 1 ≤ k → startOf (k + 1) s ≡ nextLine s (startOf k s)
 unfolding startOf
 start-next zero s h = absurd (omega arith)
