@@ -10,7 +10,7 @@ use lib.Dec.{eqb, ltb}
 use borrow.Author.Tests.{le-leb, le-ltb, eq-eqb}
 use Rattle.wire.specs.Wire.{alike, pad}
 use Rattle.wire.proofs.Parts.{Bytes, pad-whole}
-use Rattle.text.specs.Text.{allOf, hexValue, isHexDigit, isHex, unhex, hexOf, isDigit, isDigits, decimalFrom, decimal, plainDecimal, fitting, numberOf, decimalOf}
+use Rattle.text.specs.Text.{ascii, allOf, hexValue, isHexDigit, isHex, unhex, hexOf, isDigit, isDigits, decimalFrom, decimal, plainDecimal, fitting, numberOf, decimalOf}
 use Rattle.text.specs.Lines.{headTo, tailAfter, startOf, fromLine, lineOf, ended}
 use Rattle.text.proofs.Laws.{all-append, length-hexOf, unhex-hexOf, isHex-hexOf, isDigits-decimalOf, plainDecimal-decimalOf, decimal-decimalOf}
 use Rattle.text.proofs.LineLaws.{other, all-other, head-past, tail-past, ended-past, next-from, none-left}
@@ -20,12 +20,8 @@ use Rattle.card.specs.declared.Flags.{Flags}
 use Rattle.card.specs.declared.Card.{Card}
 use Rattle.card.specs.Values.{fresh}
 use Rattle.sheet.specs.Sheet.{isHexOf, isCvc, curveOf, isCurve, countOf, maxOf, isMax, flagOf, isFlag, rows, rowOf, goodRow, goodLine, badFrom, firstBad, valueOf, sheetCodes, sheetFixed, sheetFlags, sheetCard}
+use Rattle.sheet.proofs.Laws.{alike-self}
 use Rattle.sheet.specs.Written.{textFrom, curveName, flagText, flagValues, values, sheetText, FixedInRange, CodesInRange, FlagsInRange, InRange}
-
-alike-self : (l : List ℕ) → alike l l ≡ true
-unfolding alike
-alike-self [] = refl
-alike-self (x ∷ l) = rw (eq-eqb x x refl) (alike-self l)
 
 -- A VALUE ON LINE k: good there, and it breaks no line; the line's name has no tab in it
 record Line (k : ℕ) (v : List ℕ) : Type 0 where
@@ -118,7 +114,7 @@ curve-whole : (n : ℕ) → allOf (other 10) (curveName n) ≡ true
 unfolding curveName allOf
 curve-whole n = go (eqb n 1)
   where
-    go : (b : Bool) → allOf (other 10) (cond b (115 ∷ 101 ∷ 99 ∷ 112 ∷ 50 ∷ 53 ∷ 54 ∷ 107 ∷ 49 ∷ []) (101 ∷ 100 ∷ 50 ∷ 53 ∷ 53 ∷ 49 ∷ 57 ∷ [])) ≡ true
+    go : (b : Bool) → allOf (other 10) (cond b (ascii "secp256k1") (ascii "ed25519")) ≡ true
     go true = refl
     go false = refl
 

@@ -8,7 +8,7 @@ use lib.Dec.{leb, ltb, eqb}
 use Rattle.wire.specs.Wire.{alike, pad}
 use Rattle.text.specs.declared.Number.{Number}
 use Rattle.text.specs.declared.Number.the-variants.{Is, None}
-use Rattle.text.specs.Text.{isHex, unhex, isDigits, numberOf}
+use Rattle.text.specs.Text.{ascii, isHex, unhex, isDigits, numberOf}
 use Rattle.text.specs.Lines.{headTo, tailAfter, startOf, fromLine, lineOf, ended}
 use Rattle.card.specs.declared.Codes.{Codes}
 use Rattle.card.specs.declared.Fixed.{Fixed}
@@ -27,7 +27,7 @@ isCvc v = eqb (length v) 3 && isDigits v
 
 -- `secp256k1` is 1 and `ed25519` is 2; anything else is no curve, 0
 unfoldable pub curveOf : List ℕ → ℕ
-curveOf v = cond (alike v (115 ∷ 101 ∷ 99 ∷ 112 ∷ 50 ∷ 53 ∷ 54 ∷ 107 ∷ 49 ∷ [])) 1 (cond (alike v (101 ∷ 100 ∷ 50 ∷ 53 ∷ 53 ∷ 49 ∷ 57 ∷ [])) 2 0)
+curveOf v = cond (alike v (ascii "secp256k1")) 1 (cond (alike v (ascii "ed25519")) 2 0)
 
 unfoldable pub isCurve : List ℕ → Bool
 isCurve v = leb 1 (curveOf v)
@@ -45,7 +45,7 @@ isMax v = leb 1 (maxOf v)
 
 -- "0 or 1"; anything else is no flag, 2
 unfoldable pub flagOf : List ℕ → ℕ
-flagOf v = cond (alike v (48 ∷ [])) 0 (cond (alike v (49 ∷ [])) 1 2)
+flagOf v = cond (alike v (ascii "0")) 0 (cond (alike v (ascii "1")) 1 2)
 
 unfoldable pub isFlag : List ℕ → Bool
 isFlag v = leb (flagOf v) 1
@@ -57,19 +57,19 @@ pub record Row : Type 0 where
 
 unfoldable pub rows : List Row
 rows =
-    record { name = 99 ∷ 105 ∷ 100 ∷ []; good = isHexOf 16 }
-    ∷ record { name = 112 ∷ 105 ∷ 110 ∷ 49 ∷ []; good = isHexOf 64 }
-    ∷ record { name = 112 ∷ 105 ∷ 110 ∷ 50 ∷ []; good = isHexOf 64 }
-    ∷ record { name = 99 ∷ 118 ∷ 99 ∷ []; good = isCvc }
-    ∷ record { name = 99 ∷ 117 ∷ 114 ∷ 118 ∷ 101 ∷ []; good = isCurve }
-    ∷ record { name = 109 ∷ 97 ∷ 120 ∷ []; good = isMax }
-    ∷ record { name = 114 ∷ 101 ∷ 117 ∷ 115 ∷ 97 ∷ 98 ∷ 108 ∷ 101 ∷ []; good = isFlag }
-    ∷ record { name = 117 ∷ 115 ∷ 101 ∷ 99 ∷ 118 ∷ 99 ∷ []; good = isFlag }
-    ∷ record { name = 115 ∷ 101 ∷ 116 ∷ 112 ∷ 105 ∷ 110 ∷ 49 ∷ []; good = isFlag }
-    ∷ record { name = 115 ∷ 101 ∷ 116 ∷ 112 ∷ 105 ∷ 110 ∷ 50 ∷ []; good = isFlag }
-    ∷ record { name = 110 ∷ 111 ∷ 112 ∷ 117 ∷ 114 ∷ 103 ∷ 101 ∷ []; good = isFlag }
-    ∷ record { name = 114 ∷ 101 ∷ 112 ∷ 108 ∷ 97 ∷ 121 ∷ []; good = isFlag }
-    ∷ record { name = 97 ∷ 99 ∷ 116 ∷ 105 ∷ 118 ∷ 101 ∷ []; good = isFlag }
+    record { name = ascii "cid"; good = isHexOf 16 }
+    ∷ record { name = ascii "pin1"; good = isHexOf 64 }
+    ∷ record { name = ascii "pin2"; good = isHexOf 64 }
+    ∷ record { name = ascii "cvc"; good = isCvc }
+    ∷ record { name = ascii "curve"; good = isCurve }
+    ∷ record { name = ascii "max"; good = isMax }
+    ∷ record { name = ascii "reusable"; good = isFlag }
+    ∷ record { name = ascii "usecvc"; good = isFlag }
+    ∷ record { name = ascii "setpin1"; good = isFlag }
+    ∷ record { name = ascii "setpin2"; good = isFlag }
+    ∷ record { name = ascii "nopurge"; good = isFlag }
+    ∷ record { name = ascii "replay"; good = isFlag }
+    ∷ record { name = ascii "active"; good = isFlag }
     ∷ []
 
 -- line k, counted from 1; a line past the last takes no value
@@ -83,7 +83,7 @@ rowOf k = getD (noRow ∷ rows) k noRow
 unfoldable pub goodRow : ℕ → List ℕ → List ℕ → Bool
 goodRow k name value = alike name (rowOf k .name) && rowOf k .good value
 
--- a text begins with a good line k: name, tab, value, line feed
+-- a text begins with a good line k: name, tab, value, line feed. (A line without a tab has an empty value, and none is good.)
 unfoldable pub goodLine : ℕ → List ℕ → Bool
 goodLine k s = ended s && goodRow k (headTo 9 (headTo 10 s)) (tailAfter 9 (headTo 10 s))
 

@@ -1,25 +1,31 @@
--- The sheet that describes a card, and the cards that a sheet can describe: what `read-back` (proofs/ReadBack.antt) is about. Assumes nothing.
-use Prim.Native.Nat.{ℕ, suc, _+_, _≤_}
+-- The sheet that describes a card, and the cards that a sheet can describe: what the theorems of proofs/ReadBack.antt and proofs/Good.antt are about.
+-- Assumes nothing.
+use Prim.Native.Nat.{ℕ, zero, suc, _+_, _≤_}
 use mathlib.Core.Path.{_≡_}
 use mathlib.Core.Bool.{true, cond}
 use mathlib.Core.List.{List, [], _∷_, _++_}
 use lib.ListN.{length}
 use lib.Dec.{eqb}
 use Rattle.wire.proofs.Parts.{Bytes}
-use Rattle.text.specs.Text.{hexOf, isDigits, decimalOf}
+use Rattle.text.specs.Text.{ascii, hexOf, isDigits, decimalOf}
 use Rattle.card.specs.declared.Codes.{Codes}
 use Rattle.card.specs.declared.Fixed.{Fixed}
 use Rattle.card.specs.declared.Flags.{Flags}
 use Rattle.card.specs.declared.Card.{Card}
-use Rattle.sheet.specs.Sheet.{rowOf}
+use Rattle.sheet.specs.Sheet.{rowOf, valueOf}
 
 -- lines from line k on, with these values: each name, tab, value, line feed
 unfoldable pub textFrom : ℕ → List (List ℕ) → List ℕ
 textFrom k [] = []
 textFrom k (v ∷ vs) = rowOf k .name ++ (9 ∷ v) ++ (10 ∷ textFrom (suc k) vs)
 
+-- the values of n lines from line k on, as they stand in a text
+unfoldable pub valuesFrom : ℕ → ℕ → List ℕ → List (List ℕ)
+valuesFrom zero k s = []
+valuesFrom (suc n) k s = valueOf k s ∷ valuesFrom n (suc k) s
+
 unfoldable pub curveName : ℕ → List ℕ
-curveName n = cond (eqb n 1) (115 ∷ 101 ∷ 99 ∷ 112 ∷ 50 ∷ 53 ∷ 54 ∷ 107 ∷ 49 ∷ []) (101 ∷ 100 ∷ 50 ∷ 53 ∷ 53 ∷ 49 ∷ 57 ∷ [])
+curveName n = cond (eqb n 1) (ascii "secp256k1") (ascii "ed25519")
 
 unfoldable pub flagText : ℕ → List ℕ
 flagText n = (n + 48) ∷ []

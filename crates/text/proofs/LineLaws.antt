@@ -5,10 +5,10 @@ use native.Mathlib.Numerals.{add-one}
 use mathlib.Core.Path.{_≡_, refl, sym, ap, ap₂, _∙_}
 use mathlib.Core.List.{List, [], _∷_, _++_}
 use mathlib.Core.Bool.{Bool, true, false, cond, not, _&&_}
-use lib.ListN.{length, take, drop, getD, length-append, length-drop, drop-of-length-le}
-use lib.Seq.{drop-cons, take-at, drop-drop, drop-append-add}
+use lib.ListN.{length, take, drop, getD, length-append, length-drop, take-append-drop, drop-of-length-le}
+use lib.Seq.{length-take-le, drop-cons, take-at, drop-drop, drop-append-add}
 use lib.Dec.{ltb, eqb}
-use borrow.Author.Tests.{lt-ltb, le-ltb, eq-eqb, ne-eqb, not-true}
+use borrow.Author.Tests.{lt-ltb, ltb-true, eq-eqb, ne-eqb, eqb-true, not-true}
 use Rattle.wire.proofs.Laws.{both-true}
 use Rattle.text.specs.Text.{allOf}
 use Rattle.text.specs.Lines.{lengthTo, headTo, tailAfter, nextLine, startOf, fromLine, lineOf, ended}
@@ -104,3 +104,36 @@ next-from k s l t h o e =
 pub none-left : (k : ℕ) (s : List ℕ) → fromLine k s ≡ [] → length s ≤ startOf k s
 unfolding fromLine
 none-left k s e = let n : length (drop (startOf k s) s) ≡ 0 = ap length e in omega (arith, length-drop (startOf k s) s)
+
+-- TEXT TAKEN APART: where b stands, it stands between what is before it and what is after it
+module _ (b : ℕ) where
+  stands : (s : List ℕ) → lengthTo b s < length s → getD s (lengthTo b s) 0 ≡ b
+  unfolding lengthTo
+  stands [] h = absurd (omega arith)
+  stands (x ∷ s) h = go (eqb x b) refl h (stands s)
+    where
+      go : (t : Bool) → eqb x b ≡ t → cond t 0 (suc (lengthTo b s)) < suc (length s) → (lengthTo b s < length s → getD s (lengthTo b s) 0 ≡ b) → getD (x ∷ s) (cond t 0 (suc (lengthTo b s))) 0 ≡ b
+      go true e h f = eqb-true x b e
+      go false e h f = f (omega arith)
+
+  pub split-first : (s : List ℕ) → lengthTo b s < length s → s ≡ headTo b s ++ (b ∷ tailAfter b s)
+  unfolding headTo tailAfter
+  split-first s h =
+      let n = lengthTo b s in
+      sym (take-append-drop n s) ∙ ap (λ (l : List ℕ). take n s ++ l) (drop-cons s n 0 h ∙ rw (stands s h, add-one))
+
+pub ended-within : (s : List ℕ) → ended s ≡ true → lengthTo 10 s < length s
+unfolding ended headTo
+ended-within s e =
+    let l : length (take (lengthTo 10 s) s) ≡ lengthTo 10 s = length-take-le (lengthTo 10 s) s (length-to-within 10 s) in
+    omega (arith, l, ltb-true (length (take (lengthTo 10 s) s)) (length s) e)
+
+-- the text after a line that has its line feed
+pub next-is-tail : (k : ℕ) (s : List ℕ) → 1 ≤ k → ended (fromLine k s) ≡ true → tailAfter 10 (fromLine k s) ≡ fromLine (k + 1) s
+unfolding fromLine nextLine tailAfter
+next-is-tail k s h e =
+    let at = startOf k s in
+    let n = lengthTo 10 (drop at s) in
+    let i : at < length s = omega (arith, ended-within (drop at s) e, length-drop at s) in
+    let z : at + n + 1 ≡ at + (n + 1) = omega arith in
+    rw (start-next k s h, lt-ltb _ _ i, z) (drop-drop (n + 1) at s)
