@@ -1,0 +1,120 @@
+-- One more tap on a card: what it keeps, and what demand 3 says of it. Assumes nothing.
+use Prim.Native.Nat.{ℕ, zero, suc, _+_, _-_, _*_, _/_, _%_, _≤_, _<_}
+use native.Mathlib.Omega.{arith}
+use mathlib.Core.Path.{_≡_, refl, sym, ap, _∙_, subst}
+use mathlib.Core.List.{List, [], _∷_, _++_}
+use mathlib.Core.Bool.{Bool, true, false, cond, not, _&&_, _||_}
+use lib.ListN.{length, take, drop, replicate, length-append, length-replicate}
+use lib.Seq.{take-at}
+use lib.Dec.{ltb, leb, eqb}
+use borrow.Author.Tests.{ltb-true, leb-true, le-leb, eqb-true}
+use Rattle.wire.specs.Wire.{be2, be4, alike, pad, part}
+use Rattle.wire.proofs.Laws.{padded, part-plain}
+use Rattle.fields.specs.Fields.{has, val, holds, written, Tagged, fld, firstOf}
+use Rattle.card.specs.declared.Codes.{Codes}
+use Rattle.card.specs.declared.Face.{Face}
+use Rattle.card.specs.declared.Card.{Card}
+use Rattle.card.specs.Values.{u8, heldLast, lastOf}
+use Rattle.manual.specs.declared.Command.{Command}
+use Rattle.manual.specs.declared.Command.the-variants.{ReadCard, CreateWallet, CheckWallet, SetPin, Sign, VerifyCard, ValidateCard, PurgeWallet, ReadUserData, WriteUserData, WriteIssuerData, ReadIssuerData}
+use Rattle.manual.specs.declared.Matched.{Matched}
+use Rattle.manual.specs.Request.{command, payload}
+use Rattle.manual.specs.Row.{Question, question, asked, sizes, firstOk, shaped, allowed}
+use Rattle.manual.specs.Wallet.{readCard, createWallet, setPin, sign, purgeWallet, isNew, count, hashesOk, signFields, hashQuestions, signedFace}
+use Rattle.manual.specs.Checking.{checkWallet, verifyCard, validateCard}
+use Rattle.manual.specs.Storage.{readUserData, writeUserData, writeIssuerData, readIssuerData}
+use Rattle.manual.specs.Commands.{row}
+use Rattle.manual.specs.Settle.{matched, judged, Said, fieldsOf, done, said, saidTo, recoded, cardAfter, questionsOf}
+use Rattle.history.specs.Sums.{Sheet, Tap, History, tap, bodyOf, isDone, accepted, ins, did, signedNew, wallets, status, everPurged, made, total, codes, given, usesWallet}
+use Rattle.history.specs.Demands.{Call, signResponse, Rightful, OneMore}
+use Rattle.history.proofs.Choice.{by-cases, both-true, clash, or-false, code, ins-create, ins-check, ins-sign, is-sign}
+use Rattle.history.proofs.Shape.{ShapeFace, Shape}
+use Rattle.history.proofs.Taps.{accepts, val-told, has-told, Passed, Watched, watch, Same, by-tap, Carried, carried}
+use Rattle.history.proofs.Told.{writes, Reports, reports, loaded}
+use Rattle.history.proofs.Seen.{Seen, look, shows, look-step}
+use Rattle.history.proofs.Keeps.{Inv, keeps, next-shape, code-shape}
+
+-- a command adds at most 3 to 9000
+small : (k : Command) (m : Matched) → row k .more m ≤ 3
+unfolding readCard createWallet checkWallet setPin sign verifyCard validateCard purgeWallet readUserData writeUserData writeIssuerData readIssuerData
+small ReadCard m = omega arith
+small CreateWallet m = omega arith
+small CheckWallet m = omega arith
+small SetPin m = go (m .new1) (m .new2)
+  where
+    go : (b c : Bool) → cond b 0 1 + cond c 0 2 ≤ 3
+    go true true = omega arith
+    go true false = omega arith
+    go false true = omega arith
+    go false false = omega arith
+small Sign m = omega arith
+small VerifyCard m = omega arith
+small ValidateCard m = omega arith
+small PurgeWallet m = omega arith
+small ReadUserData m = omega arith
+small WriteUserData m = omega arith
+small WriteIssuerData m = omega arith
+small ReadIssuerData m = omega arith
+
+done-word : (n : ℕ) → n ≤ 3 → isDone (0x9000 + n) ≡ true
+done-word n h = rw (le-leb 0x9000 (0x9000 + n) (omega arith), le-leb (0x9000 + n) 0x9003 (omega arith))
+
+pub done-accepted : (k : Command) (m : Matched) (f : Face) (p d a : List ℕ) → accepted (done (row k) m f p d a .response) ≡ true
+unfolding done
+done-accepted k m f p d a = accepts (written (fieldsOf (row k) (row k .next f p a) p d a)) (0x9000 + row k .more m) ∙ done-word (row k .more m) (small k m)
+
+-- THE CARD after a tap
+abbrev pub after : Card → List ℕ → List ℕ → List ℕ → Card
+after c q d a = cardAfter (saidTo c q d a) (c .codes) q
+
+abbrev pub xs : Card → List ℕ → List ℕ → List Question
+xs c q d = questionsOf (judged (matched (c .codes) (payload q)) (c .face) q) (c .face) q d
+
+-- a card, and what its history shows
+pub record Fits (sh : Sheet) (c : Card) (h : History) : Type 0 where
+  pub inv : Inv sh (watch (c .face)) (c .codes) (look sh h)
+  pub shape : Shape c
+
+-- EVERY TAP keeps it; a refusal by one line
+module _ (sh : Sheet) (c : Card) (h : History) (q d a : List ℕ) (i : Fits sh c h) where
+  abbrev k : Command
+  k = command q
+
+  abbrev p : List ℕ
+  p = payload q
+
+  abbrev m : Matched
+  m = matched (c .codes) (payload q)
+
+  abbrev f : Face
+  f = c .face
+
+  abbrev Goal : Said → List Question → Type 0
+  Goal z y = Inv sh (watch (z .face)) (recoded k (z .executed) p (c .codes)) (cond (accepted (z .response)) (shows k (sh .flags) p (val 0x61 (bodyOf (z .response))) (look sh h)) (look sh h))
+
+  stays : (z : Said) → Same f z → Goal z []
+  stays z e = rw (e .face, e .codes, e .answer) (i .inv)
+
+  told61 : (face-after : ShapeFace (row k .next f p a)) → firstOf 0x61 (fieldsOf (row k) (row k .next f p a) p d a) ≡ val 0x61 (bodyOf (done (row k) m f p d a .response))
+  unfolding done
+  told61 s = sym (val-told 0x61 (0x9000 + row k .more m) (fieldsOf (row k) (row k .next f p a) p d a) (writes k (row k .next f p a) p d a s))
+
+  keeps-done : Passed (row k) m f p → Goal (done (row k) m f p d a) []
+  unfolding done
+  keeps-done y =
+      rw (done-accepted k m f p d a)
+      (keeps sh f (c .codes) (look sh h) (i .inv) k m p d a _ y (told61 (next-shape k f p a (i .shape .face))))
+
+  inv-tap : Inv sh (watch (after c q d a .face)) (after c q d a .codes) (look sh (tap q (saidTo c q d a .response) ∷ h))
+  inv-tap = rw (look-step sh (tap q (saidTo c q d a .response)) h) (by-tap Goal m f q d a (λ w x z. stays _ z) (λ _ s z. stays s z) (λ y g. keeps-done y))
+
+  shape-tap : Shape (after c q d a)
+  unfolding done
+  shape-tap =
+      by-tap (λ z _. Shape (cardAfter z (c .codes) q)) m f q d a
+      (λ w x z. i .shape)
+      (λ _ s z. rw (z .face, z .codes) (i .shape))
+      (λ y g. record { codes = code-shape k p (c .codes) (i .shape .codes); face = next-shape k f p a (i .shape .face) })
+
+  pub fits-tap : Fits sh (after c q d a) (tap q (saidTo c q d a .response) ∷ h)
+  fits-tap = record { inv = inv-tap; shape = shape-tap }
