@@ -28,7 +28,7 @@ use Rattle.manual.specs.Settle.{matched, judged, Said, fieldsOf, done, said, sa
 use Rattle.history.specs.Sums.{Sheet, Tap, History, tap, bodyOf, isDone, accepted, ins, did, signedNew, wallets, status, everPurged, made, total, codes, given, usesWallet}
 use Rattle.history.specs.Demands.{Call, signResponse, Rightful, OneMore}
 use Rattle.history.proofs.Choice.{by-cases, both-true, clash, or-false, code, ins-create, ins-check, ins-sign, is-sign}
-use Rattle.history.proofs.Shape.{ShapeFace, Shape}
+use Rattle.image.specs.Shape.{ShapeFace, Shape}
 use Rattle.history.proofs.Taps.{accepts, val-told, has-told, Passed, Watched, watch, Same, by-tap, Carried, carried}
 use Rattle.history.proofs.Told.{writes, Reports, reports, loaded}
 use Rattle.history.proofs.Seen.{Seen, look, shows, look-step}
@@ -70,6 +70,14 @@ after c q d a = cardAfter (saidTo c q d a) (c .codes) q
 abbrev pub xs : Card → List ℕ → List ℕ → List Question
 xs c q d = questionsOf (judged (matched (c .codes) (payload q)) (c .face) q) (c .face) q d
 
+pub shape-after : (c : Card) (q d a : List ℕ) → Shape c → Shape (after c q d a)
+unfolding done
+shape-after c q d a s =
+    by-tap (λ z _. Shape (cardAfter z (c .codes) q)) (matched (c .codes) (payload q)) (c .face) q d a
+    (λ w x z. s)
+    (λ _ z y. rw (y .face, y .codes) s)
+    (λ y g. record { codes = code-shape (command q) (payload q) (c .codes) (s .codes); face = next-shape (command q) (c .face) (payload q) a (s .face) })
+
 -- a card, and what its history shows
 pub record Fits (sh : Sheet) (c : Card) (h : History) : Type 0 where
   pub inv : Inv sh (watch (c .face)) (c .codes) (look sh h)
@@ -108,13 +116,10 @@ module _ (sh : Sheet) (c : Card) (h : History) (q d a : List ℕ) (i : Fits sh c
   inv-tap : Inv sh (watch (after c q d a .face)) (after c q d a .codes) (look sh (tap q (saidTo c q d a .response) ∷ h))
   inv-tap = rw (look-step sh (tap q (saidTo c q d a .response)) h) (by-tap Goal m f q d a (λ w x z. stays _ z) (λ _ s z. stays s z) (λ y g. keeps-done y))
 
-  shape-tap : Shape (after c q d a)
-  unfolding done
-  shape-tap =
-      by-tap (λ z _. Shape (cardAfter z (c .codes) q)) m f q d a
-      (λ w x z. i .shape)
-      (λ _ s z. rw (z .face, z .codes) (i .shape))
-      (λ y g. record { codes = code-shape k p (c .codes) (i .shape .codes); face = next-shape k f p a (i .shape .face) })
-
   pub fits-tap : Fits sh (after c q d a) (tap q (saidTo c q d a .response) ∷ h)
-  fits-tap = record { inv = inv-tap; shape = shape-tap }
+  fits-tap = record { inv = inv-tap; shape = shape-after c q d a (i .shape) }
+
+-- where a call gave no response
+pub fits-none : (sh : Sheet) (c : Card) (h : History) (q : List ℕ) → Fits sh c h → Fits sh c (tap q [] ∷ h)
+unfolding accepted
+fits-none sh c h q i = record { inv = rw (look-step sh (tap q []) h) (i .inv); shape = i .shape }

@@ -4,11 +4,11 @@ use native.Mathlib.Omega.{arith}
 use mathlib.Core.Path.{_≡_, refl, sym, ap, _∙_}
 use mathlib.Core.List.{List, [], _∷_}
 use mathlib.Core.Bool.{Bool, true, false, cond, not, _&&_, _||_}
-use lib.ListN.{length, replicate, length-replicate}
+use lib.ListN.{length}
 use lib.Dec.{ltb, leb, eqb}
 use borrow.Author.Tests.{ltb-true, leb-true, eqb-true}
-use Rattle.wire.specs.Wire.{pad, fit, room, part}
-use Rattle.wire.proofs.Laws.{length-put, room-true, part-none}
+use Rattle.wire.proofs.Laws.{part-none}
+use Rattle.wire.proofs.Parts.{length-pad}
 use Rattle.fields.specs.Fields.{firstOf, has, val}
 use Rattle.card.specs.declared.Codes.{Codes}
 use Rattle.card.specs.declared.Block.{Block}
@@ -26,20 +26,11 @@ use Rattle.manual.specs.Commands.{row}
 use Rattle.manual.specs.Settle.{fieldsOf}
 use Rattle.history.specs.Sums.{Sheet}
 use Rattle.history.proofs.Choice.{by-cases, both-true, clash}
-use Rattle.history.proofs.Shape.{ShapeCodes, ShapeFixed, ShapeIssuer, ShapeFace, Shape}
+use Rattle.image.specs.Shape.{ShapeCodes, ShapeFixed, ShapeIssuer, ShapeFace, Shape}
 use Rattle.history.proofs.Taps.{Passed, Watched, watch}
 use Rattle.history.proofs.Seen.{Seen, look, creates, recodes, signs, purges, shows}
 
 -- ARRAYS keep their lengths
-pub length-pad : (n : ℕ) (x : List ℕ) → length (pad n x) ≡ n
-unfolding fit
-length-pad n x =
-    let z : List ℕ = replicate n 0 in
-    let l : length z ≡ n = length-replicate n 0 in
-    by-cases (λ (d : List ℕ). length d ≡ n) (room (length z) 0 (length x))
-    (λ e. length-put z 0 x (room-true (length z) 0 (length x) e) ∙ l)
-    (λ _. l)
-
 stored-shape : (t : ℕ) (p : List ℕ) (b : Block) → length (b .bytes) ≡ 512 → length (storedBlock t p b .bytes) ≡ 512
 stored-shape t p b e = by-cases (λ (z : Block). length (z .bytes) ≡ 512) (has t p) (λ _. length-pad 512 (val t p)) (λ _. e)
 

@@ -1,8 +1,8 @@
 pub mod Choice
 pub mod Taps
-pub mod Shape
 pub mod Told
 pub mod Seen
 pub mod Keeps
 pub mod Cards
 pub mod Next
+pub mod Images

@@ -9,7 +9,7 @@ use lib.Seq.{take-at}
 use lib.Dec.{ltb, leb, eqb}
 use borrow.Author.Tests.{leb-true, eqb-true, not-true}
 use Rattle.wire.specs.Wire.{be2, be4, alike, pad, part}
-use Rattle.wire.proofs.Laws.{padded, part-plain}
+use Rattle.wire.proofs.Parts.{part-pad}
 use Rattle.fields.specs.Fields.{has, val, holds, written, fld, firstOf}
 use Rattle.card.specs.declared.Codes.{Codes}
 use Rattle.card.specs.declared.Face.{Face}
@@ -28,23 +28,18 @@ use Rattle.manual.specs.Settle.{matched, judged, Said, fieldsOf, done, said, sa
 use Rattle.history.specs.Sums.{Sheet, Tap, History, tap, bodyOf, accepted, ins, did, signedNew, wallets, status, everPurged, made, total, codes, given, usesWallet}
 use Rattle.history.specs.Demands.{Call, signResponse, Rightful, OneMore}
 use Rattle.history.proofs.Choice.{by-cases, both-true, clash, or-false, code, ins-create, ins-check, ins-sign, is-sign}
-use Rattle.history.proofs.Shape.{ShapeFace, Shape}
+use Rattle.image.specs.Shape.{ShapeFace, Shape}
 use Rattle.history.proofs.Taps.{has-told, val-told, Passed, Watched, watch, Same, by-tap, Carried, carried}
 use Rattle.history.proofs.Told.{writes, Reports, reports, loaded, still}
 use Rattle.history.proofs.Keeps.{Inv, next-shape}
 use Rattle.history.proofs.Cards.{after, xs, Fits, fits-tap}
 
 -- SIGNATURES held are told again whole
-held-again : (n : ℕ) (a : List ℕ) → length a ≤ n → part (pad n a) 0 (length a) ≡ a
-held-again n a h =
-    let z : List ℕ = replicate (n - length a) 0 in
-    rw (padded n a h) (part-plain (a ++ z) 0 (length a) (simp length-append (omega arith)) ∙ take-at a z (length a) refl)
-
 pub last-held : (a : List ℕ) (n : ℕ) → length a ≡ n * 64 → n ≤ 10 → lastOf (heldLast a) ≡ a
 unfolding lastOf
 last-held a n e h =
     let u : length a / 64 % 256 * 64 ≡ length a = omega arith in
-    ap (λ k. part (pad 640 a) 0 k) u ∙ held-again 640 a (omega arith)
+    ap (λ k. part (pad 640 a) 0 k) u ∙ part-pad 640 a (omega arith)
 
 pub sizes-hash : (number curve k : ℕ) (l : List ℕ) → sizes (hashQuestions number curve k l) ≡ k * 64
 unfolding sizes hashQuestions

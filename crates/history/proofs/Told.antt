@@ -24,7 +24,7 @@ use Rattle.manual.specs.Storage.{heldField, noteFields, counterField, guarded, 
 use Rattle.manual.specs.Commands.{row}
 use Rattle.manual.specs.Settle.{fieldsOf}
 use Rattle.history.proofs.Choice.{clash}
-use Rattle.history.proofs.Shape.{ShapeFixed, ShapeIssuer, ShapeFace}
+use Rattle.image.specs.Shape.{ShapeFixed, ShapeIssuer, ShapeFace}
 use Rattle.history.proofs.Taps.{Passed, Watched, watch}
 
 -- A part is at most as long as is asked for, and as what it is a part of
