@@ -25,9 +25,9 @@ use Rattle.manual.specs.Checking.{checkWallet, verifyCard, validateCard}
 use Rattle.manual.specs.Storage.{readUserData, writeUserData, writeIssuerData, readIssuerData}
 use Rattle.manual.specs.Commands.{row}
 use Rattle.manual.specs.Settle.{matched, judged, Said, fieldsOf, done, said, saidTo, recoded, cardAfter, questionsOf}
-use Rattle.history.specs.Sums.{Sheet, Tap, History, tap, bodyOf, isDone, accepted, ins, did, signedNew, wallets, status, everPurged, made, total, codes, given, usesWallet}
+use Rattle.history.specs.Sums.{code, Sheet, Tap, History, tap, bodyOf, isDone, accepted, ins, did, signedNew, wallets, status, everPurged, made, total, codes, given, usesWallet}
 use Rattle.history.specs.Demands.{Call, signResponse, Rightful, OneMore}
-use Rattle.history.proofs.Choice.{by-cases, both-true, clash, or-false, code, ins-create, ins-check, ins-sign, is-sign}
+use Rattle.history.proofs.Choice.{by-cases, both-true, clash, or-false, ins-create, ins-check, ins-sign, is-sign}
 use Rattle.image.specs.Shape.{ShapeFace, Shape}
 use Rattle.history.proofs.Taps.{accepts, val-told, has-told, Passed, Watched, watch, Same, by-tap, Carried, carried}
 use Rattle.history.proofs.Told.{writes, Reports, reports, loaded}

@@ -11,6 +11,7 @@ use Rattle.manual.specs.declared.Command.the-variants.{ReadCard, CreateWallet, 
 use Rattle.manual.specs.declared.Ins.{Ins}
 use Rattle.manual.specs.declared.Ins.the-variants.{Listed, Unlisted}
 use Rattle.manual.specs.Request.{insOf, commandOf}
+use Rattle.history.specs.Sums.{code}
 
 pub clash : {A : Type 0} {b : Bool} → b ≡ true → b ≡ false → A
 clash p q = let z : _≡_ {A = ℕ} 0 1 = cc in absurd (omega arith)
@@ -29,21 +30,6 @@ or-left false b e = clash e refl
 
 pub and-both : {a b : Bool} → a ≡ true → b ≡ true → (a && b) ≡ true
 and-both p q = rw (p, q)
-
--- THE INS of a command
-abbrev pub code : Command → ℕ
-code ReadCard = 0xF2
-code CreateWallet = 0xF8
-code CheckWallet = 0xF9
-code SetPin = 0xFA
-code Sign = 0xFB
-code VerifyCard = 0xF3
-code ValidateCard = 0xF4
-code PurgeWallet = 0xFC
-code ReadUserData = 0xE1
-code WriteUserData = 0xE0
-code WriteIssuerData = 0xF6
-code ReadIssuerData = 0xF7
 
 -- a test of the INS is a test of the command, but for READ_CARD, which stands for what is not listed too
 module _ (i x : ℕ) where

@@ -6,3 +6,5 @@ pub mod Keeps
 pub mod Cards
 pub mod Next
 pub mod Images
+pub mod Story
+pub mod Rejected

@@ -12,8 +12,8 @@ use Rattle.manual.specs.declared.Command.{Command}
 use Rattle.manual.specs.declared.Command.the-variants.{ReadCard, CreateWallet, CheckWallet, SetPin, Sign, VerifyCard, ValidateCard, PurgeWallet, ReadUserData, WriteUserData, WriteIssuerData, ReadIssuerData}
 use Rattle.manual.specs.Request.{command, payload}
 use Rattle.manual.specs.Wallet.{isNew, count, newCodes}
-use Rattle.history.specs.Sums.{Sheet, Tap, History, bodyOf, accepted, ins, did, signedNew, wallets, status, everPurged, made, total, codes, given}
-use Rattle.history.proofs.Choice.{code, ins-create, ins-pin, ins-sign, ins-purge}
+use Rattle.history.specs.Sums.{code, Sheet, Tap, History, bodyOf, accepted, ins, did, signedNew, wallets, status, everPurged, made, total, codes, given}
+use Rattle.history.proofs.Choice.{ins-create, ins-pin, ins-sign, ins-purge}
 
 pub record Seen : Type 0 where
   pub codes : Codes

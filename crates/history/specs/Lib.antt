@@ -1,2 +1,3 @@
 pub mod Sums
 pub mod Demands
+pub mod Wrong

@@ -10,6 +10,8 @@ use Rattle.card.specs.declared.Codes.{Codes}
 use Rattle.card.specs.declared.Fixed.{Fixed}
 use Rattle.card.specs.declared.Flags.{Flags}
 use Rattle.card.specs.Values.{afterPurge}
+use Rattle.manual.specs.declared.Command.{Command}
+use Rattle.manual.specs.declared.Command.the-variants.{ReadCard, CreateWallet, CheckWallet, SetPin, Sign, VerifyCard, ValidateCard, PurgeWallet, ReadUserData, WriteUserData, WriteIssuerData, ReadIssuerData}
 use Rattle.manual.specs.Request.{payload}
 use Rattle.manual.specs.Wallet.{isNew, count, newCodes}
 
@@ -92,3 +94,18 @@ given (t ∷ h) = cond (signedNew t) (val 0x61 (bodyOf (t .response))) (given h)
 -- commands that make a wallet or a wallet signature: CREATE_WALLET, CHECK_WALLET, SIGN
 abbrev pub usesWallet : ℕ → Bool
 usesWallet i = eqb i 0xF8 || (eqb i 0xF9 || eqb i 0xFB)
+
+-- the INS of a command
+abbrev pub code : Command → ℕ
+code ReadCard = 0xF2
+code CreateWallet = 0xF8
+code CheckWallet = 0xF9
+code SetPin = 0xFA
+code Sign = 0xFB
+code VerifyCard = 0xF3
+code ValidateCard = 0xF4
+code PurgeWallet = 0xFC
+code ReadUserData = 0xE1
+code WriteUserData = 0xE0
+code WriteIssuerData = 0xF6
+code ReadIssuerData = 0xF7

@@ -1,0 +1,211 @@
+-- WRONG CARDS, 01 "How much a promise has to say", and four that a tired engineer might write. proofs/Rejected.antt shows each rejected, by the demand named here. Assumes nothing.
+use Prim.Native.Nat.{ℕ, _+_, _-_}
+use mathlib.Core.List.{List, [], _∷_}
+use mathlib.Core.Bool.{Bool, true, false, cond, not, _||_}
+use lib.ListN.{length}
+use lib.Dec.{leb, eqb}
+use Rattle.wire.specs.Wire.{be2}
+use Rattle.card.specs.declared.Codes.{Codes}
+use Rattle.card.specs.declared.Wallet.{Wallet}
+use Rattle.card.specs.declared.Face.{Face}
+use Rattle.card.specs.declared.Card.{Card}
+use Rattle.card.specs.Image.{decode}
+use Rattle.card.specs.Valid.{isCard}
+use Rattle.card.specs.Values.{u32, risen, heldLast, purged, withWallet, withCounters, withLast}
+use Rattle.manual.specs.declared.Command.{Command}
+use Rattle.manual.specs.declared.Command.the-variants.{ReadCard, CreateWallet, CheckWallet, SetPin, Sign, VerifyCard, ValidateCard, PurgeWallet, ReadUserData, WriteUserData, WriteIssuerData, ReadIssuerData}
+use Rattle.manual.specs.declared.Matched.{Matched}
+use Rattle.manual.specs.declared.Verdict.{Verdict}
+use Rattle.manual.specs.declared.Verdict.the-variants.{Pass, Stop}
+use Rattle.manual.specs.Request.{command, payload}
+use Rattle.manual.specs.Row.{Question, asked, Row, gateOf, rules, passed}
+use Rattle.manual.specs.Wallet.{readCard, sign, purgeWallet, readFields, isNew, count, newCodes}
+use Rattle.manual.specs.Storage.{guarded, sentCounter, writeIssuerData}
+use Rattle.manual.specs.Commands.{row}
+use Rattle.manual.specs.Settle.{matched, wordOf, Said, refused, answered, untouched, outcome, posed, posedBy, lent, roomy}
+use Rattle.history.specs.Sums.{code}
+use Rattle.history.specs.Demands.{AnyCard}
+
+-- THE INSIDE of a card: what it asks and says of a card that was read from its image, and which card it leaves
+pub record Inside : Type 0 where
+  pub verdict : Card → List ℕ → Verdict
+  pub asks : Card → List ℕ → List ℕ → List Question
+  pub says : Card → List ℕ → List ℕ → List ℕ → Said
+  pub leaves : Card → List ℕ → Said → Card
+
+-- numbers 1 to 3, and the buffers, as 01 has them
+abbrev pub outside : Inside → AnyCard
+outside x =
+    record {
+      ask =
+          λ m q d page.
+          cond (isCard m)
+          (cond (leb 2048 (length page))
+          (cond (eqb (length d) 32) (posed (wordOf (x .verdict (decode m) q)) (asked (x .asks (decode m) q d)) page) (posedBy (outcome 3 0 0) page))
+          (posedBy (outcome 2 0 0) page))
+          (posedBy (outcome 1 0 0) page);
+      settle =
+          λ m q d a out nxt.
+          cond (isCard m)
+          (cond (roomy (length out) (length nxt))
+          (cond (eqb (length d) 32) (lent (x .says (decode m) q d a) (x .leaves (decode m) q (x .says (decode m) q d a)) out nxt) (untouched 3 out nxt))
+          (untouched 2 out nxt))
+          (untouched 1 out nxt);
+    }
+
+-- a card with these rows
+abbrev pub judgedBy : (Command → Row) → Card → List ℕ → Verdict
+judgedBy r c q = gateOf (rules (r (command q)) (matched (c .codes) (payload q)) (c .face) q) (passed q)
+
+abbrev pub asksBy : (Command → Row) → Verdict → Card → List ℕ → List ℕ → List Question
+asksBy r (Stop n w) c q d = []
+asksBy r (Pass k) c q d = r k .questions (c .face) (payload q) d
+
+abbrev pub saysBy : (Command → Row) → Verdict → Card → List ℕ → List ℕ → List ℕ → Said
+saysBy r (Stop n w) c q d a = refused w (c .face)
+saysBy r (Pass k) c q d a = answered (r k) (matched (c .codes) (payload q)) (c .face) (payload q) d a
+
+abbrev pub leavesBy : (Command → Row) → Card → List ℕ → Said → Card
+leavesBy r c q s = record { face = s .face; codes = cond (s .executed) (r (command q) .recode (payload q) (c .codes)) (c .codes) }
+
+abbrev pub byRows : (Command → Row) → Inside
+byRows r = record { verdict = judgedBy r; asks = λ c q d. asksBy r (judgedBy r c q) c q d; says = λ c q d a. saysBy r (judgedBy r c q) c q d a; leaves = leavesBy r }
+
+-- the manual's rows
+abbrev pub honest : Inside
+honest = byRows row
+
+-- 1. ANSWERS 6985 TO EVERYTHING (demand 2)
+abbrev pub refuser : AnyCard
+refuser =
+    outside (record { verdict = λ c q. Stop 12 0x6985; asks = λ c q d. []; says = λ c q d a. refused 0x6985 (c .face); leaves = λ c q s. c })
+
+-- 2. GIVES 9000 TO EVERYTHING (demand 2)
+abbrev pub yesSayer : AnyCard
+yesSayer =
+    outside
+    (record { verdict = λ c q. passed q; asks = λ c q d. []; says = λ c q d a. record { number = 0; word = 0x9000; response = be2 0x9000; face = c .face; executed = false }; leaves = λ c q s. c })
+
+-- 3. NEVER CHANGES THE IMAGE (demand 2)
+abbrev pub forgetter : AnyCard
+forgetter = outside (record { verdict = honest .verdict; asks = honest .asks; says = honest .says; leaves = λ c q s. c })
+
+-- the rows, but for one
+abbrev pub but : Command → Row → Command → Row
+but k r j = cond (eqb (code j) (code k)) r (row j)
+
+-- 4. HONOURS THE FIRST SIGN AND AFTERWARDS REPEATS ITS SIGNATURES (demands 2 and 3): it asks, and counts, and answers the old ones
+abbrev pub keptLast : Face → Face → Face
+keptLast f g = cond (eqb (f .last .count) 0) g (withLast (f .last) g)
+
+unfoldable pub signOnce : Row
+unfolding sign
+signOnce =
+    record {
+      needs = sign .needs;
+      pin2 = sign .pin2;
+      fields = sign .fields;
+      conditions = sign .conditions;
+      questions = sign .questions;
+      confirmed = sign .confirmed;
+      next = λ f p a. keptLast f (sign .next f p a);
+      recode = sign .recode;
+      fieldsOut = sign .fieldsOut;
+      more = sign .more;
+    }
+
+abbrev pub repeater : AnyCard
+repeater = outside (byRows (but Sign signOnce))
+
+-- 5. REPORTS A SIGNED_HASHES OF ITS OWN MAKING (demand 3), all else being right
+abbrev pub boasting : Face → Face
+boasting f = withWallet (record { status = f .wallet .status; number = f .wallet .number; remaining = f .wallet .remaining; signed = 7 }) f
+
+unfoldable pub readProud : Row
+unfolding readCard
+readProud =
+    record {
+      needs = readCard .needs;
+      pin2 = readCard .pin2;
+      fields = readCard .fields;
+      conditions = readCard .conditions;
+      questions = readCard .questions;
+      confirmed = readCard .confirmed;
+      next = readCard .next;
+      recode = readCard .recode;
+      fieldsOut = λ f p d a. readFields (boasting f);
+      more = readCard .more;
+    }
+
+abbrev pub proud : AnyCard
+proud = outside (byRows (but ReadCard readProud))
+
+-- 6. TAKES A NOTE WHOSE COUNTER IS NOT ABOVE THE STORED ONE (demand 2), as the old practice card did
+unfoldable pub writeAgain : Row
+unfolding writeIssuerData
+writeAgain =
+    record {
+      needs = writeIssuerData .needs;
+      pin2 = writeIssuerData .pin2;
+      fields = writeIssuerData .fields;
+      conditions = λ m f p. not (guarded f) || leb (f .issuer .counter) (sentCounter p);
+      questions = writeIssuerData .questions;
+      confirmed = writeIssuerData .confirmed;
+      next = writeIssuerData .next;
+      recode = writeIssuerData .recode;
+      fieldsOut = writeIssuerData .fieldsOut;
+      more = writeIssuerData .more;
+    }
+
+abbrev pub oldCard : AnyCard
+oldCard = outside (byRows (but WriteIssuerData writeAgain))
+
+-- 7. TAKES A SIGNATURE OFF REMAINING PER HASH (demand 3)
+abbrev pub spentEach : ℕ → Wallet → Wallet
+spentEach n w = record { status = w .status; number = w .number; remaining = w .remaining - n; signed = u32 (w .signed + n) }
+
+unfoldable pub signEach : Row
+unfolding sign
+signEach =
+    record {
+      needs = sign .needs;
+      pin2 = sign .pin2;
+      fields = sign .fields;
+      conditions = sign .conditions;
+      questions = sign .questions;
+      confirmed = sign .confirmed;
+      next = λ f p a. cond (isNew p) (withLast (heldLast a) (withCounters (risen (f .counters)) (withWallet (spentEach (count p) (f .wallet)) f))) f;
+      recode = sign .recode;
+      fieldsOut = sign .fieldsOut;
+      more = sign .more;
+    }
+
+abbrev pub greedy : AnyCard
+greedy = outside (byRows (but Sign signEach))
+
+-- 8. STORES THE NEW CODES BEFORE IT LOOKS WHETHER THEY MAY CHANGE (demand 3): a refused SET_PIN is in force
+abbrev pub hastily : Card → List ℕ → Said → Card
+hastily c q s = record { face = s .face; codes = cond (eqb (code (command q)) 0xFA) (newCodes (payload q)) (c .codes) }
+
+abbrev pub hasty : AnyCard
+hasty = outside (record { verdict = honest .verdict; asks = honest .asks; says = honest .says; leaves = hastily })
+
+-- 9. KEEPS THE PURGED KEY (demand 2)
+unfoldable pub purgeHalf : Row
+unfolding purgeWallet
+purgeHalf =
+    record {
+      needs = purgeWallet .needs;
+      pin2 = purgeWallet .pin2;
+      fields = purgeWallet .fields;
+      conditions = purgeWallet .conditions;
+      questions = purgeWallet .questions;
+      confirmed = purgeWallet .confirmed;
+      next = λ f p a. withWallet (purged (f .flags .reusable) (f .wallet)) f;
+      recode = purgeWallet .recode;
+      fieldsOut = purgeWallet .fieldsOut;
+      more = purgeWallet .more;
+    }
+
+abbrev pub hoarder : AnyCard
+hoarder = outside (byRows (but PurgeWallet purgeHalf))
