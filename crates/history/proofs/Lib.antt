@@ -5,6 +5,7 @@ pub mod Seen
 pub mod Keeps
 pub mod Cards
 pub mod Next
+pub mod Stay
 pub mod Images
 pub mod Story
 pub mod Rejected

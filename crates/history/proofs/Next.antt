@@ -9,7 +9,7 @@ use lib.Seq.{take-at}
 use lib.Dec.{ltb, leb, eqb}
 use borrow.Author.Tests.{leb-true, eqb-true, not-true}
 use Rattle.wire.specs.Wire.{be2, be4, alike, pad, part}
-use Rattle.wire.proofs.Parts.{part-pad}
+use Rattle.image.proofs.Kept.{last-of-held}
 use Rattle.fields.specs.Fields.{has, val, holds, written, fld, firstOf}
 use Rattle.card.specs.declared.Codes.{Codes}
 use Rattle.card.specs.declared.Face.{Face}
@@ -34,13 +34,7 @@ use Rattle.history.proofs.Told.{writes, Reports, reports, loaded, still
 use Rattle.history.proofs.Keeps.{Inv, next-shape}
 use Rattle.history.proofs.Cards.{after, xs, Fits, fits-tap}
 
--- SIGNATURES held are told again whole
-pub last-held : (a : List ℕ) (n : ℕ) → length a ≡ n * 64 → n ≤ 10 → lastOf (heldLast a) ≡ a
-unfolding lastOf
-last-held a n e h =
-    let u : length a / 64 % 256 * 64 ≡ length a = omega arith in
-    ap (λ k. part (pad 640 a) 0 k) u ∙ part-pad 640 a (omega arith)
-
+-- THE ANSWERS to new hashes, 1 to 10
 pub sizes-hash : (number curve k : ℕ) (l : List ℕ) → sizes (hashQuestions number curve k l) ≡ k * 64
 unfolding sizes hashQuestions
 sizes-hash number curve zero l = refl
@@ -117,7 +111,7 @@ new-signed : (m : Matched) (f : Face) (p d a : List ℕ) → Passed sign m f p �
 unfolding sign
 new-signed m f p d a h n e =
     let l = answer-size f p d a n e in
-    record { questions = rw n; size = l; last = rw n (last-held a (count p) l (few p n (needed m f p h .fields))) }
+    record { questions = rw n; size = l; last = rw n (last-of-held a (count p) l (few p n (needed m f p h .fields))) }
 
 no-question : (f : Face) (p d : List ℕ) → isNew p ≡ false → sign .questions f p d ≡ []
 unfolding sign
