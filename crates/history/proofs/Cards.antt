@@ -59,9 +59,12 @@ small ReadIssuerData m = omega arith
 done-word : (n : ℕ) → n ≤ 3 → isDone (0x9000 + n) ≡ true
 done-word n h = rw (le-leb 0x9000 (0x9000 + n) (omega arith), le-leb (0x9000 + n) 0x9003 (omega arith))
 
+pub done-is : (k : Command) (m : Matched) → isDone (0x9000 + row k .more m) ≡ true
+done-is k m = done-word (row k .more m) (small k m)
+
 pub done-accepted : (k : Command) (m : Matched) (f : Face) (p d a : List ℕ) → accepted (done (row k) m f p d a .response) ≡ true
 unfolding done
-done-accepted k m f p d a = accepts (written (fieldsOf (row k) (row k .next f p a) p d a)) (0x9000 + row k .more m) ∙ done-word (row k .more m) (small k m)
+done-accepted k m f p d a = accepts (written (fieldsOf (row k) (row k .next f p a) p d a)) (0x9000 + row k .more m) ∙ done-is k m
 
 -- THE CARD after a tap
 abbrev pub after : Card → List ℕ → List ℕ → List ℕ → Card

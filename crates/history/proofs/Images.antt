@@ -85,21 +85,24 @@ module _ (m : List ℕ) (i : Call) where
   pub shape-is : Shape c′
   shape-is = shape-after c (i .request) (i .draw) (i .answers) (shape-decode m)
 
-  pub image-is : decode (image m out) ≡ c′
+  pub image-bytes : image m out ≡ cond (eqb (s .number) 0) (encode c′) m
   unfolding settledOf
+  image-bytes = read-image m s c′ (i .out) (i .next) (length-encode c′ shape-is)
+
+  pub image-is : decode (image m out) ≡ c′
   image-is =
-      ap decode (read-image m s c′ (i .out) (i .next) (length-encode c′ shape-is))
+      ap decode image-bytes
       ∙ by-cases (λ (l : List ℕ). decode l ≡ c′) (eqb (s .number) 0) {x = encode c′} {y = m} (λ _. decode-encode c′ shape-is) (λ e. sym (quiet c (i .request) (i .draw) (i .answers) e .1))
 
   -- ask: zero questions where the card has none, whatever is lent
-  asks-none : xs c (i .request) (i .draw) ≡ [] → questions (askBy model m i) ≡ []
+  pub asks-none : xs c (i .request) (i .draw) ≡ [] → questions (askBy model m i) ≡ []
   unfolding askedFor askedOf asked eachAsked Rattle.wire.specs.Wire.joined
   asks-none e =
       by-cases (λ z. questions z ≡ []) (isCard m)
       (λ _. by-cases (λ z. questions z ≡ []) (leb 2048 (length (i .page))) (λ _. by-cases (λ z. questions z ≡ []) (eqb (length (i .draw)) 32) (λ _. rw e refl) (λ _. refl)) (λ _. refl))
       (λ _. refl)
 
-  asks-all : isCard m ≡ true → eqb (length (i .draw)) 32 ≡ true → 2048 ≤ length (i .page) → questions (askBy model m i) ≡ asked (xs c (i .request) (i .draw))
+  pub asks-all : isCard m ≡ true → eqb (length (i .draw)) 32 ≡ true → 2048 ≤ length (i .page) → questions (askBy model m i) ≡ asked (xs c (i .request) (i .draw))
   unfolding askedFor askedOf
   asks-all e l h =
       let v : List ℕ = asked (xs c (i .request) (i .draw)) in
@@ -128,7 +131,7 @@ fits-fresh sh m e =
     record { inv = subst (λ c. Inv sh (watch (c .face)) (c .codes) (look sh [])) (sym (e .spells)) (at-first sh); shape = shape-decode m }
 
 -- DEMAND 3 of the manual
-model-demand3 : Demand3 model
+pub model-demand3 : Demand3 model
 model-demand3 =
     record {
       kept = λ sh m e is.
@@ -140,11 +143,3 @@ model-demand3 =
 -- a card that meets demand 2 is the manual
 pub is-model : (f : AnyCard) → Demand2 f → model ≡ f
 is-model f h = λ j. record { ask = λ m q d x. sym (h .asks m q d x) j; settle = λ m q d a x y. sym (h .settles m q d a x y) j }
-
--- DEMAND 3 follows from demand 2
-pub demand3 : (f : AnyCard) → Demand2 f → Demand3 f
-demand3 f h = subst Demand3 (is-model f h) model-demand3
-
--- demand 2 leaves nothing open
-pub unique : (f g : AnyCard) → Demand2 f → Demand2 g → f ≡ g
-unique f g h k = sym (is-model f h) ∙ is-model g k

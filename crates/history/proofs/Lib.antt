@@ -6,6 +6,8 @@ pub mod Keeps
 pub mod Cards
 pub mod Next
 pub mod Stay
+pub mod Room
 pub mod Images
+pub mod Theorems
 pub mod Story
 pub mod Rejected

@@ -112,7 +112,7 @@ module _ (m : Matched) (f : Face) (p d a : List ℕ) (o : okFace f ≡ true) whe
       let s = sized (val 0x32 p) z in
       ok-issuer f o (heldIssuer (val 0x32 p) (val 0x33 p) (keptCounter f p)) (held-issuer-ok (val 0x32 p) (val 0x33 p) (keptCounter f p) (s .0) (s .1))
 
-stays : (k : Command) (m : Matched) (f : Face) (p d a : List ℕ) → okFace f ≡ true → Passed (row k) m f p → shaped (row k .questions f p d) a ≡ true → okFace (row k .next f p a) ≡ true
+pub stays : (k : Command) (m : Matched) (f : Face) (p d a : List ℕ) → okFace f ≡ true → Passed (row k) m f p → shaped (row k .questions f p d) a ≡ true → okFace (row k .next f p a) ≡ true
 unfolding readCard setPin checkWallet verifyCard validateCard readUserData readIssuerData
 stays ReadCard m f p d a o h g = o
 stays CreateWallet m f p d a o h g = stays-create m f p d a o h g

@@ -24,6 +24,7 @@ use Rattle.manual.specs.Row.{Question, shaped, Row, Rule, gateOf, allowed, head
 use Rattle.manual.specs.Commands.{row}
 use Rattle.manual.specs.Settle.{judged, Said, silent, refused, done, answered, saidBy, said, questionsOf}
 use Rattle.history.specs.Sums.{bodyOf, lastWord, isDone, accepted}
+use Rattle.history.specs.Facts.{isRefusal}
 use Rattle.history.proofs.Choice.{by-cases, clash}
 
 -- RESPONSES
@@ -58,10 +59,7 @@ abbrev pub Every : List Rule → Type 0
 Every [] = Unit {0}
 Every (r ∷ rs) = (r .ok ≡ true) × Every rs
 
--- the status words of the checks: none of them is 9000 to 9003
-abbrev pub isRefusal : ℕ → Bool
-isRefusal w = eqb w 0x6700 || (eqb w 0x6E00 || (eqb w 0x6D00 || (eqb w 0x6982 || (eqb w 0x6A86 || eqb w 0x6985))))
-
+-- none of their status words is 9000 to 9003
 abbrev pub Refusals : List Rule → Type 0
 Refusals [] = Unit {0}
 Refusals (r ∷ rs) = (isRefusal (r .word) ≡ true) × ((isDone (r .word) ≡ false) × Refusals rs)
@@ -115,27 +113,34 @@ silent-same : (f : Face) → Same f (silent 4 f)
 unfolding accepted
 silent-same f = record { face = refl; codes = refl; answer = refl; silence = λ n. refl }
 
--- THE CASES OF A TAP: refused by checks 1 to 12; stuck at number 4 or check 13; carried out
+-- THE CASES OF A TAP: refused by checks 1 to 12; number 4; refused by check 13; carried out
 module _ (P : Said → List Question → Type 0) (m : Matched) (f : Face) (q d a : List ℕ) where
   abbrev r : Row
   r = row (command q)
 
+  pub by-outcome :
+      ((w : ℕ) → isRefusal w ≡ true → isDone w ≡ false → P (refused w f) [])
+      → (Passed r m f (payload q) → shaped (r .questions f (payload q) d) a ≡ false → P (silent 4 f) (r .questions f (payload q) d))
+      → (Passed r m f (payload q) → P (refused 0x6286 f) (r .questions f (payload q) d))
+      → (Passed r m f (payload q) → shaped (r .questions f (payload q) d) a ≡ true → P (done r m f (payload q) d a) (r .questions f (payload q) d))
+      → P (said m f q d a) (questionsOf (judged m f q) f q d)
+  unfolding said judged answered
+  by-outcome no-way four thirteen yes-way =
+      by-checks (λ v. P (saidBy v m f q d a) (questionsOf v f q d)) (rules r m f q) (passed q) (words r m f q)
+      (λ n w x e. no-way w x e)
+      (λ h.
+      by-cases (λ z. P z (r .questions f (payload q) d)) (shaped (r .questions f (payload q) d) a)
+      (λ e. by-cases (λ z. P z (r .questions f (payload q) d)) (r .confirmed a) (λ g. yes-way (named r m f q h) e) (λ g. thirteen (named r m f q h)))
+      (λ e. four (named r m f q h) e))
+
+  -- the same, where number 4 and check 13 need not be told apart
   pub by-tap :
       ((w : ℕ) → isRefusal w ≡ true → Same f (refused w f) → P (refused w f) [])
       → (Passed r m f (payload q) → (s : Said) → Same f s → P s (r .questions f (payload q) d))
       → (Passed r m f (payload q) → shaped (r .questions f (payload q) d) a ≡ true → P (done r m f (payload q) d a) (r .questions f (payload q) d))
       → P (said m f q d a) (questionsOf (judged m f q) f q d)
-  unfolding said judged answered
   by-tap no-way stuck yes-way =
-      by-checks (λ v. P (saidBy v m f q d a) (questionsOf v f q d)) (rules r m f q) (passed q) (words r m f q)
-      (λ n w x e. no-way w x (refused-same f w e))
-      (λ h.
-      by-cases (λ z. P z (r .questions f (payload q) d)) (shaped (r .questions f (payload q) d) a)
-      (λ e.
-      by-cases (λ z. P z (r .questions f (payload q) d)) (r .confirmed a)
-      (λ g. yes-way (named r m f q h) e)
-      (λ g. stuck (named r m f q h) (refused 0x6286 f) (refused-same f 0x6286 refl)))
-      (λ e. stuck (named r m f q h) (silent 4 f) (silent-same f)))
+      by-outcome (λ w x e. no-way w x (refused-same f w e)) (λ h _. stuck h (silent 4 f) (silent-same f)) (λ h. stuck h (refused 0x6286 f) (refused-same f 0x6286 refl)) yes-way
 
 -- what is accepted was carried out
 pub record Carried (r : Row) (m : Matched) (f : Face) (p d a : List ℕ) (s : Said) (x : List Question) : Type 0 where

@@ -6,6 +6,7 @@ use mathlib.Core.Bool.{Bool, true, false, cond}
 use lib.ListN.{length, take}
 use lib.Dec.{leb, eqb}
 use Rattle.wire.specs.Wire.{be2, be4}
+use Rattle.wire.proofs.Parts.{Bytes}
 use Rattle.fields.specs.Fields.{has, val, holds, written, fld}
 use Rattle.card.specs.declared.Card.{Card}
 use Rattle.card.specs.Values.{fresh}
@@ -14,7 +15,7 @@ use Rattle.card.specs.Valid.{isCard}
 use Rattle.manual.specs.Request.{payload}
 use Rattle.manual.specs.Row.{asked}
 use Rattle.manual.specs.Wallet.{isNew, count, hashQuestions}
-use Rattle.manual.specs.Settle.{Posed, Settled, askedFor, settled, settledBy, posedBy, outcome, untouched, over, roomy}
+use Rattle.manual.specs.Settle.{Posed, Settled, askedFor, settled, settledBy, posed, posedBy, outcome, untouched, over, roomy}
 use Rattle.history.specs.Sums.{Sheet, Tap, History, tap, bodyOf, isDone, accepted, ins, did, signedNew, wallets, status, everPurged, made, total, codes, given, usesWallet}
 
 -- ANY CARD. ask: image, request, draw, buffer for questions. settle: image, request, draw, answers, buffers for the response and the next image
@@ -36,6 +37,36 @@ askBy f m i = f .ask m (i .request) (i .draw) (i .page)
 
 abbrev pub settleBy : AnyCard → List ℕ → Call → Settled
 settleBy f m i = f .settle m (i .request) (i .draw) (i .answers) (i .out) (i .next)
+
+-- DEMAND 1: every call, whatever it is given, ends as the table of 01, "Two calls", says
+-- numbers 1 to 3 in their order, of the image, the buffers and the draw; 0 where none of them applies
+abbrev pub stop : Bool → Bool → Bool → ℕ
+stop card room draw = cond card (cond room (cond draw 0 3) 2) 1
+
+abbrev pub askStop : List ℕ → Call → ℕ
+askStop m i = stop (isCard m) (leb 2048 (length (i .page))) (eqb (length (i .draw)) 32)
+
+abbrev pub settleStop : List ℕ → Call → ℕ
+settleStop m i = stop (isCard m) (roomy (length (i .out)) (length (i .next))) (eqb (length (i .draw)) 32)
+
+-- ask, then: a status word and zero questions, or 9000 and questions that fit the buffer
+pub data Asked (i : Call) (x : Posed) : Type 0 where
+  noneAsked : (w : ℕ) → isDone w ≡ false → x ≡ posed w [] (i .page) → Asked i x
+  allAsked : (v : List ℕ) → length v ≤ 2048 → x ≡ posed 0x9000 v (i .page) → Asked i x
+
+-- settle, then: number 4 and nothing written; a refusal, a response of two bytes, with the old image; or fields that fit the buffer, with a card as the next image
+pub data Ended (m : List ℕ) (i : Call) (x : Settled) : Type 0 where
+  shapeless : x ≡ untouched 4 (i .out) (i .next) → Ended m i x
+  refusal : (w : ℕ) → isDone w ≡ false → x ≡ settledBy (outcome 0 w 2) (over (be2 w) (i .out)) (over m (i .next)) → Ended m i x
+  carriedOut :
+      (w : ℕ) (fields m′ : List ℕ) → isDone w ≡ true → length fields + 2 ≤ 2048 → isCard m′ ≡ true
+      → x ≡ settledBy (outcome 0 w (length fields + 2)) (over (fields ++ be2 w) (i .out)) (over m′ (i .next)) → Ended m i x
+
+pub record Demand1 (f : AnyCard) : Type 0 where
+  pub askStops : (m : List ℕ) (i : Call) → eqb (askStop m i) 0 ≡ false → askBy f m i ≡ posedBy (outcome (askStop m i) 0 0) (i .page)
+  pub asks : (m : List ℕ) (i : Call) → askStop m i ≡ 0 → Asked i (askBy f m i)
+  pub settleStops : (m : List ℕ) (i : Call) → eqb (settleStop m i) 0 ≡ false → settleBy f m i ≡ untouched (settleStop m i) (i .out) (i .next)
+  pub settles : (m : List ℕ) (i : Call) → Bytes m → settleStop m i ≡ 0 → Ended m i (settleBy f m i)
 
 -- DEMAND 2: it answers and changes the card exactly as the manual says
 pub record Demand2 (f : AnyCard) : Type 0 where

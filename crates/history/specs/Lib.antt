@@ -1,3 +1,4 @@
 pub mod Sums
 pub mod Demands
+pub mod Facts
 pub mod Wrong
