@@ -90,3 +90,17 @@ is-sign ReadUserData e = clash e refl
 is-sign WriteUserData e = clash e refl
 is-sign WriteIssuerData e = clash e refl
 is-sign ReadIssuerData e = clash e refl
+
+pub is-note : (k : Command) → eqb (code k) 0xF6 ≡ true → k ≡ WriteIssuerData
+is-note ReadCard e = clash e refl
+is-note CreateWallet e = clash e refl
+is-note CheckWallet e = clash e refl
+is-note SetPin e = clash e refl
+is-note Sign e = clash e refl
+is-note VerifyCard e = clash e refl
+is-note ValidateCard e = clash e refl
+is-note PurgeWallet e = clash e refl
+is-note ReadUserData e = clash e refl
+is-note WriteUserData e = clash e refl
+is-note WriteIssuerData e = refl
+is-note ReadIssuerData e = clash e refl

@@ -9,5 +9,7 @@ pub mod Stay
 pub mod Room
 pub mod Images
 pub mod Theorems
+pub mod Corollaries
+pub mod Notes
 pub mod Story
 pub mod Rejected

@@ -72,10 +72,10 @@ purged-refuses WriteUserData m f p u e h = clash u refl
 purged-refuses WriteIssuerData m f p u e h = clash u refl
 purged-refuses ReadIssuerData m f p u e h = clash u refl
 
-did-is : (i : ℕ) (t : Tap) → did i t ≡ true → (accepted (t .response) ≡ true) × (eqb (ins (t .request)) i ≡ true)
+pub did-is : (i : ℕ) (t : Tap) → did i t ≡ true → (accepted (t .response) ≡ true) × (eqb (ins (t .request)) i ≡ true)
 did-is i t e = both-true (accepted (t .response)) (eqb (ins (t .request)) i) e
 
-is-a-sign : (q : List ℕ) → eqb (ins q) 0xFB ≡ true → command q ≡ Sign
+pub is-a-sign : (q : List ℕ) → eqb (ins q) 0xFB ≡ true → command q ≡ Sign
 is-a-sign q e = is-sign (command q) (sym (ins-sign (ins q)) ∙ e)
 
 -- WHAT A SIGN NEEDED

@@ -46,14 +46,14 @@ pub unique : (f g : AnyCard) → Demand2 f → Demand2 g → f ≡ g
 unique f g h k = sym (is-model f h) ∙ is-model g k
 
 -- of the manual, and so of any card that meets demand 2
-every : (P : AnyCard → Type 0) → P model → (f : AnyCard) → Demand2 f → P f
+pub every : (P : AnyCard → Type 0) → P model → (f : AnyCard) → Demand2 f → P f
 every P p f h = subst P (is-model f h) p
 
 -- what the manual says and leaves
-abbrev saidAt : List ℕ → Call → Said
+abbrev pub saidAt : List ℕ → Call → Said
 saidAt m i = saidTo (decode m) (i .request) (i .draw) (i .answers)
 
-abbrev cardAt : List ℕ → Call → Card
+abbrev pub cardAt : List ℕ → Call → Card
 cardAt m i = after (decode m) (i .request) (i .draw) (i .answers)
 
 -- WHAT IS LEFT OF A CARD IS A CARD
@@ -70,7 +70,7 @@ pub card-stays : (f : AnyCard) → Demand2 f → (m : List ℕ) (i : Call) → i
 card-stays = every (λ f. (m : List ℕ) (i : Call) → isCard m ≡ true → isCard (imageBy f m i) ≡ true) stays-model
 
 -- DEMAND 1. Numbers 1 to 3
-stop-none : (a b c : Bool) → stop a b c ≡ 0 → (a ≡ true) × ((b ≡ true) × (c ≡ true))
+pub stop-none : (a b c : Bool) → stop a b c ≡ 0 → (a ≡ true) × ((b ≡ true) × (c ≡ true))
 stop-none true true true e = (refl, (refl, refl))
 stop-none true true false e = absurd (omega arith)
 stop-none true false c e = absurd (omega arith)

@@ -1,16 +1,19 @@
--- What the further theorems speak of: a card unchanged, ask and settle agreed, a note that is too old. Assumes nothing.
-use Prim.Native.Nat.{ℕ}
+-- What the further theorems speak of: a card unchanged, ask and settle agreed, what a SIGN costs, a note that is too old. Assumes nothing.
+use Prim.Native.Nat.{ℕ, _+_, _≤_}
 use mathlib.Core.Path.{_≡_}
-use mathlib.Core.List.{List}
-use mathlib.Core.Bool.{Bool, true, false, _||_}
-use lib.Dec.{eqb}
+use mathlib.Core.List.{List, []}
+use mathlib.Core.Bool.{Bool, true, false, cond, _||_}
+use lib.Dec.{leb, eqb}
 use Rattle.wire.proofs.Parts.{Bytes}
+use Rattle.card.specs.declared.Card.{Card}
 use Rattle.card.specs.Image.{decode}
 use Rattle.card.specs.Valid.{isCard}
 use Rattle.manual.specs.Row.{Question, asked, shaped}
+use Rattle.manual.specs.Request.{payload}
+use Rattle.manual.specs.Storage.{guarded, sentCounter}
 use Rattle.manual.specs.Settle.{Posed, Settled}
-use Rattle.history.specs.Sums.{isDone}
-use Rattle.history.specs.Demands.{Call, questions}
+use Rattle.history.specs.Sums.{isDone, accepted, ins}
+use Rattle.history.specs.Demands.{AnyCard, Call, askBy, settleBy, settleStop, questions, response, imageBy}
 
 -- the image m′ after spells the card that m spelled, and is m itself where m is a card in bytes
 pub record Unchanged (m m′ : List ℕ) : Type 0 where
@@ -28,3 +31,32 @@ pub record Agree (i : Call) (x : Posed) (y : Settled) : Type 0 where
 -- the status words of checks 1 to 12: 6985, or that of an earlier check
 abbrev pub isRefusal : ℕ → Bool
 isRefusal w = eqb w 0x6700 || (eqb w 0x6E00 || (eqb w 0x6D00 || (eqb w 0x6982 || (eqb w 0x6A86 || eqb w 0x6985))))
+
+-- f refuses the call by checks 1 to 12: nothing is asked, nothing accepted, and the card stays; the status word is told where settle says none of 1 to 3
+pub record Refused (f : AnyCard) (m : List ℕ) (i : Call) : Type 0 where
+  pub asks : questions (askBy f m i) ≡ []
+  pub answer : accepted (response (settleBy f m i)) ≡ false
+  pub word : settleStop m i ≡ 0 → isRefusal (settleBy f m i .result .word) ≡ true
+  pub stays : Unchanged m (imageBy f m i)
+
+-- what n new hashes, at most ten, cost a card: one signature, and n hashes on the count
+pub record Cost (c c′ : Card) (n : ℕ) : Type 0 where
+  pub remaining : c′ .face .wallet .remaining + 1 ≡ c .face .wallet .remaining
+  pub signedHashes : c′ .face .wallet .signed ≡ c .face .wallet .signed + n
+  pub few : n ≤ 10
+
+-- where n signatures begin in SIGN's response: behind CID's ten bytes and the head of field 61, of two bytes, or four from four signatures on
+abbrev pub place : ℕ → ℕ
+place n = cond (leb n 3) 12 14
+
+-- a note: WRITE_ISSUER_DATA with this counter, or one below it
+pub record NoteUpTo (n : ℕ) (i : Call) : Type 0 where
+  pub command : ins (i .request) ≡ 0xF6
+  pub counter : sentCounter (payload (i .request)) ≤ n
+
+-- of the card that an image spells
+abbrev pub noteCounter : List ℕ → ℕ
+noteCounter m = decode m .face .issuer .counter
+
+abbrev pub protected : List ℕ → Bool
+protected m = guarded (decode m .face)
