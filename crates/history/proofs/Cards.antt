@@ -1,37 +1,28 @@
 -- One more tap on a card: what it keeps, and what demand 3 says of it. Assumes nothing.
-use Prim.Native.Nat.{ℕ, zero, suc, _+_, _-_, _*_, _/_, _%_, _≤_, _<_}
+use Prim.Native.Nat.{ℕ, _+_, _-_, _≤_}
 use native.Mathlib.Omega.{arith}
-use mathlib.Core.Path.{_≡_, refl, sym, ap, _∙_, subst}
-use mathlib.Core.List.{List, [], _∷_, _++_}
-use mathlib.Core.Bool.{Bool, true, false, cond, not, _&&_, _||_}
-use lib.ListN.{length, take, drop, replicate, length-append, length-replicate}
-use lib.Seq.{take-at}
-use lib.Dec.{ltb, leb, eqb}
-use borrow.Author.Tests.{ltb-true, leb-true, le-leb, eqb-true}
-use Rattle.wire.specs.Wire.{be2, be4, alike, pad, part}
-use Rattle.wire.proofs.Laws.{padded, part-plain}
-use Rattle.fields.specs.Fields.{has, val, holds, written, Tagged, fld, firstOf}
-use Rattle.card.specs.declared.Codes.{Codes}
+use mathlib.Core.Path.{_≡_, sym, _∙_}
+use mathlib.Core.List.{List, [], _∷_}
+use mathlib.Core.Bool.{Bool, true, false, cond}
+use borrow.Author.Tests.{le-leb}
+use Rattle.fields.specs.Fields.{val, written, firstOf}
 use Rattle.card.specs.declared.Face.{Face}
 use Rattle.card.specs.declared.Card.{Card}
-use Rattle.card.specs.Values.{u8, heldLast, lastOf}
 use Rattle.manual.specs.declared.Command.{Command}
 use Rattle.manual.specs.declared.Command.the-variants.{ReadCard, CreateWallet, CheckWallet, SetPin, Sign, VerifyCard, ValidateCard, PurgeWallet, ReadUserData, WriteUserData, WriteIssuerData, ReadIssuerData}
 use Rattle.manual.specs.declared.Matched.{Matched}
 use Rattle.manual.specs.Request.{command, payload}
-use Rattle.manual.specs.Row.{Question, question, asked, sizes, firstOk, shaped, allowed}
-use Rattle.manual.specs.Wallet.{readCard, createWallet, setPin, sign, purgeWallet, isNew, count, hashesOk, signFields, hashQuestions, signedFace}
+use Rattle.manual.specs.Row.{Question}
+use Rattle.manual.specs.Wallet.{readCard, createWallet, setPin, sign, purgeWallet}
 use Rattle.manual.specs.Checking.{checkWallet, verifyCard, validateCard}
 use Rattle.manual.specs.Storage.{readUserData, writeUserData, writeIssuerData, readIssuerData}
 use Rattle.manual.specs.Commands.{row}
-use Rattle.manual.specs.Settle.{matched, judged, Said, fieldsOf, done, said, saidTo, recoded, cardAfter, questionsOf}
-use Rattle.history.specs.Sums.{code, Sheet, Tap, History, tap, bodyOf, isDone, accepted, ins, did, signedNew, wallets, status, everPurged, made, total, codes, given, usesWallet}
-use Rattle.history.specs.Demands.{Call, signResponse, Rightful, OneMore}
-use Rattle.history.proofs.Choice.{by-cases, both-true, clash, or-false, ins-create, ins-check, ins-sign, is-sign}
+use Rattle.manual.specs.Settle.{matched, judged, Said, fieldsOf, done, saidTo, recoded, cardAfter, questionsOf}
+use Rattle.history.specs.Sums.{Sheet, History, tap, bodyOf, isDone, accepted, codes}
 use Rattle.image.specs.Shape.{ShapeFace, Shape}
-use Rattle.history.proofs.Taps.{accepts, val-told, has-told, Passed, Watched, watch, Same, by-tap, Carried, carried}
-use Rattle.history.proofs.Told.{writes, Reports, reports, loaded}
-use Rattle.history.proofs.Seen.{Seen, look, shows, look-step}
+use Rattle.history.proofs.Taps.{accepts, val-told, Passed, watch, Same, by-tap}
+use Rattle.history.proofs.Told.{writes}
+use Rattle.history.proofs.Seen.{look, shows, look-step}
 use Rattle.history.proofs.Keeps.{Inv, keeps, next-shape, code-shape}
 
 -- a command adds at most 3 to 9000

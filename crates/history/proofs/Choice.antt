@@ -1,15 +1,15 @@
 -- Laws of choices, and of the INS byte. Assumes nothing.
 use Prim.Native.Nat.{ℕ}
 use native.Mathlib.Omega.{arith}
-use mathlib.Core.Path.{_≡_, refl, sym, ap, _∙_}
-use mathlib.Core.Bool.{Bool, true, false, cond, not, _&&_, _||_}
+use mathlib.Core.Path.{_≡_, refl, ap, _∙_}
+use mathlib.Core.Bool.{Bool, true, false, cond, _&&_, _||_}
 use lib.Dec.{eqb}
 use borrow.Author.Tests.{eqb-true}
 pub use Rattle.wire.proofs.Laws.{by-cases, both-true}
 use Rattle.manual.specs.declared.Command.{Command}
 use Rattle.manual.specs.declared.Command.the-variants.{ReadCard, CreateWallet, CheckWallet, SetPin, Sign, VerifyCard, ValidateCard, PurgeWallet, ReadUserData, WriteUserData, WriteIssuerData, ReadIssuerData}
 use Rattle.manual.specs.declared.Ins.{Ins}
-use Rattle.manual.specs.declared.Ins.the-variants.{Listed, Unlisted}
+use Rattle.manual.specs.declared.Ins.the-variants.{Listed}
 use Rattle.manual.specs.Request.{insOf, commandOf}
 use Rattle.history.specs.Sums.{code}
 

@@ -1,37 +1,35 @@
 -- What follows for a SIGN, of any card that meets demand 2: its cost, the repeat for nothing, and where the signatures stand. Assumes nothing.
-use Prim.Native.Nat.{ℕ, _+_, _-_, _*_, _/_, _≤_, _<_}
+use Prim.Native.Nat.{ℕ, _+_, _-_, _*_, _≤_, _<_}
 use native.Mathlib.Omega.{arith}
 use mathlib.Core.Path.{_≡_, refl, sym, ap, _∙_, subst}
-use mathlib.Core.List.{List, [], _∷_, _++_, append-assoc, append-nil}
+use mathlib.Core.List.{List, [], _∷_, _++_, append-assoc}
 use mathlib.Core.Bool.{Bool, true, false, cond, _&&_}
 use lib.ListN.{length}
-use lib.Dec.{ltb, leb, eqb}
+use lib.Dec.{ltb, leb}
 use borrow.Author.Tests.{ltb-true, leb-true, leb-false}
 use Rattle.wire.specs.Wire.{be2, be4, part, joined}
 use Rattle.fields.specs.Fields.{val, tlv, headOf, fld, each, written}
 use Rattle.fields.proofs.Laws.{length-short, length-long}
 use Rattle.fields.proofs.Trip.{value-at, length-tlv}
-use Rattle.card.specs.declared.Face.{Face}
 use Rattle.card.specs.declared.Card.{Card}
 use Rattle.card.specs.Values.{fresh}
 use Rattle.card.specs.Image.{decode}
 use Rattle.manual.specs.declared.Command.{Command}
-use Rattle.manual.specs.declared.Command.the-variants.{Sign}
 use Rattle.manual.specs.declared.Matched.{Matched}
 use Rattle.manual.specs.Request.{command, payload}
 use Rattle.manual.specs.Wallet.{sign, isNew, count}
 use Rattle.manual.specs.Commands.{row}
-use Rattle.manual.specs.Settle.{matched, done, saidTo, cardAfter, settledOf}
+use Rattle.manual.specs.Settle.{matched, done, saidTo, cardAfter}
 use Rattle.image.proofs.Round.{shape-decode}
-use Rattle.history.specs.Sums.{Sheet, tap, accepted, ins, did, signedNew, made, total}
-use Rattle.history.specs.Demands.{AnyCard, Call, settleBy, Demand2, response, image, tapBy, imageBy, left, played, Fresh, Demand3}
+use Rattle.history.specs.Sums.{Sheet, tap, accepted, did, signedNew}
+use Rattle.history.specs.Demands.{AnyCard, Call, settleBy, Demand2, response, image, tapBy, imageBy, left, Fresh}
 use Rattle.history.specs.Facts.{Unchanged, Cost, place}
-use Rattle.history.proofs.Choice.{by-cases, both-true, clash}
-use Rattle.history.proofs.Taps.{Passed, Carried, carried}
+use Rattle.history.proofs.Choice.{both-true, clash}
+use Rattle.history.proofs.Taps.{Passed, carried}
 use Rattle.history.proofs.Cards.{after}
 use Rattle.history.proofs.Next.{did-is, is-a-sign, needed, few}
 use Rattle.history.proofs.Images.{model, by-call, response-is, image-is}
-use Rattle.history.proofs.Theorems.{demand3, every, cardAt, keeps-where}
+use Rattle.history.proofs.Theorems.{demand3, every, keeps-where}
 
 -- ON A CARD
 module _ (c : Card) (q d a : List ℕ) where

@@ -1,26 +1,26 @@
 -- From cards to images and lent buffers: demand 3 of the manual's own ask and settle, and so of any card that meets demand 2. Assumes nothing.
-use Prim.Native.Nat.{ℕ, _+_, _≤_}
+use Prim.Native.Nat.{ℕ, _≤_}
 use native.Mathlib.Omega.{arith}
 use mathlib.Core.Path.{_≡_, refl, sym, ap, _∙_, subst}
-use mathlib.Core.List.{List, [], _∷_, _++_}
-use mathlib.Core.Bool.{Bool, true, false, cond, _&&_}
-use lib.ListN.{length, take, drop}
+use mathlib.Core.List.{List, [], _∷_}
+use mathlib.Core.Bool.{Bool, true, false, cond}
+use lib.ListN.{length, drop}
 use lib.Seq.{take-at}
 use lib.Dec.{leb, eqb}
-use borrow.Author.Tests.{leb-true, le-leb, eqb-true}
+use borrow.Author.Tests.{le-leb}
 use Rattle.card.specs.declared.Card.{Card}
 use Rattle.card.specs.Image.{encode, decode}
 use Rattle.card.specs.Valid.{isCard}
 use Rattle.manual.specs.Request.{payload}
 use Rattle.manual.specs.Row.{asked, eachAsked}
-use Rattle.manual.specs.Settle.{matched, judged, wordOf, Said, done, saidTo, cardAfter, Posed, Settled, settled, settledOf, lent, wrote, untouched, outcome, over, roomy, askedFor, askedOf, posed, posedBy}
+use Rattle.manual.specs.Settle.{matched, Said, done, saidTo, cardAfter, Settled, settled, settledOf, lent, untouched, roomy, askedFor, askedOf}
 use Rattle.history.specs.Sums.{Sheet, History, tap}
-use Rattle.history.specs.Demands.{AnyCard, Call, askBy, settleBy, Demand2, questions, response, image, tapBy, imageBy, left, played, Fresh, OneMore, Kept, Demand3}
-use Rattle.history.proofs.Choice.{by-cases, both-true, clash}
+use Rattle.history.specs.Demands.{AnyCard, Call, askBy, settleBy, Demand2, questions, response, image, tapBy, imageBy, left, played, Fresh, OneMore, Demand3}
+use Rattle.history.proofs.Choice.{by-cases, clash}
 use Rattle.image.specs.Shape.{Shape}
 use Rattle.image.proofs.Shape.{length-encode}
 use Rattle.image.proofs.Round.{decode-encode, shape-decode}
-use Rattle.history.proofs.Taps.{by-tap, Same, watch}
+use Rattle.history.proofs.Taps.{by-tap, watch}
 use Rattle.history.proofs.Seen.{look}
 use Rattle.history.proofs.Keeps.{Inv, at-first}
 use Rattle.history.proofs.Cards.{after, xs, shape-after, Fits, fits-tap, fits-none}

@@ -1,20 +1,19 @@
 -- THE INVARIANT of a card and its history, and that each command keeps it. Assumes nothing.
-use Prim.Native.Nat.{ℕ, _+_, _-_, _%_, _≤_, _<_}
+use Prim.Native.Nat.{ℕ, _+_, _-_, _≤_, _<_}
 use native.Mathlib.Omega.{arith}
-use mathlib.Core.Path.{_≡_, refl, sym, ap, _∙_}
-use mathlib.Core.List.{List, [], _∷_}
-use mathlib.Core.Bool.{Bool, true, false, cond, not, _&&_, _||_}
+use mathlib.Core.Path.{_≡_, refl, ap, _∙_}
+use mathlib.Core.List.{List, []}
+use mathlib.Core.Bool.{Bool, true, false, cond, _&&_}
 use lib.ListN.{length}
 use lib.Dec.{ltb, leb, eqb}
-use borrow.Author.Tests.{ltb-true, leb-true, eqb-true}
+use borrow.Author.Tests.{ltb-true, leb-true}
 use Rattle.wire.proofs.Laws.{part-none}
 use Rattle.wire.proofs.Parts.{length-pad}
 use Rattle.fields.specs.Fields.{firstOf, has, val}
 use Rattle.card.specs.declared.Codes.{Codes}
 use Rattle.card.specs.declared.Block.{Block}
 use Rattle.card.specs.declared.Face.{Face}
-use Rattle.card.specs.declared.Card.{Card}
-use Rattle.card.specs.Values.{u16, u32, afterPurge, heldLast, lastOf, fresh}
+use Rattle.card.specs.Values.{afterPurge, heldLast, lastOf, fresh}
 use Rattle.manual.specs.declared.Command.{Command}
 use Rattle.manual.specs.declared.Command.the-variants.{ReadCard, CreateWallet, CheckWallet, SetPin, Sign, VerifyCard, ValidateCard, PurgeWallet, ReadUserData, WriteUserData, WriteIssuerData, ReadIssuerData}
 use Rattle.manual.specs.declared.Matched.{Matched}
@@ -26,9 +25,9 @@ use Rattle.manual.specs.Commands.{row}
 use Rattle.manual.specs.Settle.{fieldsOf}
 use Rattle.history.specs.Sums.{Sheet}
 use Rattle.history.proofs.Choice.{by-cases, both-true, clash}
-use Rattle.image.specs.Shape.{ShapeCodes, ShapeFixed, ShapeIssuer, ShapeFace, Shape}
+use Rattle.image.specs.Shape.{ShapeCodes, ShapeFace}
 use Rattle.history.proofs.Taps.{Passed, Watched, watch}
-use Rattle.history.proofs.Seen.{Seen, look, creates, recodes, signs, purges, shows}
+use Rattle.history.proofs.Seen.{Seen, look, signs, shows}
 
 -- ARRAYS keep their lengths
 stored-shape : (t : ℕ) (p : List ℕ) (b : Block) → length (b .bytes) ≡ 512 → length (storedBlock t p b .bytes) ≡ 512

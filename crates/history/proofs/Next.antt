@@ -1,35 +1,32 @@
 -- What demand 3 says of one more call, on a card that fits its history. Assumes nothing.
-use Prim.Native.Nat.{ℕ, zero, suc, _+_, _-_, _*_, _/_, _%_, _≤_, _<_}
+use Prim.Native.Nat.{ℕ, zero, suc, _+_, _-_, _*_, _%_, _≤_}
 use native.Mathlib.Omega.{arith}
 use mathlib.Core.Path.{_≡_, refl, sym, ap, _∙_, subst}
 use mathlib.Core.List.{List, [], _∷_, _++_}
-use mathlib.Core.Bool.{Bool, true, false, cond, not, _&&_, _||_}
-use lib.ListN.{length, take, drop, replicate, length-append}
-use lib.Seq.{take-at}
-use lib.Dec.{ltb, leb, eqb}
-use borrow.Author.Tests.{leb-true, eqb-true, not-true}
-use Rattle.wire.specs.Wire.{be2, be4, alike, pad, part}
+use mathlib.Core.Bool.{true, false, not, _&&_}
+use lib.ListN.{length, drop}
+use lib.Dec.{leb, eqb}
+use borrow.Author.Tests.{leb-true, eqb-true}
+use Rattle.wire.specs.Wire.{be2, be4, alike}
 use Rattle.image.proofs.Kept.{last-of-held}
 use Rattle.fields.specs.Fields.{has, val, holds, written, fld, firstOf}
-use Rattle.card.specs.declared.Codes.{Codes}
 use Rattle.card.specs.declared.Face.{Face}
 use Rattle.card.specs.declared.Card.{Card}
-use Rattle.card.specs.Values.{heldLast, lastOf}
+use Rattle.card.specs.Values.{lastOf}
 use Rattle.manual.specs.declared.Command.{Command}
 use Rattle.manual.specs.declared.Command.the-variants.{ReadCard, CreateWallet, CheckWallet, SetPin, Sign, VerifyCard, ValidateCard, PurgeWallet, ReadUserData, WriteUserData, WriteIssuerData, ReadIssuerData}
 use Rattle.manual.specs.declared.Matched.{Matched}
 use Rattle.manual.specs.Request.{command, payload}
-use Rattle.manual.specs.Row.{Question, question, asked, sizes, firstOk, shaped, allowed}
-use Rattle.manual.specs.Wallet.{readCard, createWallet, setPin, sign, purgeWallet, isNew, count, hashesOk, signFields, signConditions, hashQuestions, signedFace}
+use Rattle.manual.specs.Row.{Question, asked, sizes, firstOk, shaped, allowed}
+use Rattle.manual.specs.Wallet.{readCard, createWallet, setPin, sign, purgeWallet, isNew, count, hashesOk, signFields, signConditions, hashQuestions}
 use Rattle.manual.specs.Checking.{checkWallet, verifyCard, validateCard}
 use Rattle.manual.specs.Storage.{readUserData, writeUserData, writeIssuerData, readIssuerData}
 use Rattle.manual.specs.Commands.{row}
-use Rattle.manual.specs.Settle.{matched, judged, Said, fieldsOf, done, said, saidTo, cardAfter, questionsOf}
-use Rattle.history.specs.Sums.{code, Sheet, Tap, History, tap, bodyOf, accepted, ins, did, signedNew, wallets, status, everPurged, made, total, codes, given, usesWallet}
+use Rattle.manual.specs.Settle.{matched, fieldsOf, done, saidTo}
+use Rattle.history.specs.Sums.{code, Sheet, Tap, History, tap, bodyOf, accepted, ins, did, signedNew, everPurged, made, total, given, usesWallet}
 use Rattle.history.specs.Demands.{Call, signResponse, Rightful, OneMore}
-use Rattle.history.proofs.Choice.{by-cases, both-true, clash, or-false, ins-create, ins-check, ins-sign, is-sign}
-use Rattle.image.specs.Shape.{ShapeFace, Shape}
-use Rattle.history.proofs.Taps.{has-told, val-told, Passed, Watched, watch, Same, by-tap, Carried, carried}
+use Rattle.history.proofs.Choice.{both-true, clash, or-false, ins-create, ins-check, ins-sign, is-sign}
+use Rattle.history.proofs.Taps.{has-told, val-told, Passed, watch, by-tap, Carried, carried}
 use Rattle.history.proofs.Told.{writes, Reports, reports, loaded, still}
 use Rattle.history.proofs.Keeps.{Inv, next-shape}
 use Rattle.history.proofs.Cards.{after, xs, Fits, fits-tap}
@@ -258,6 +255,7 @@ module _ (sh : Sheet) (c : Card) (h : History) (i : Fits sh c h) (t : Call) wher
       record {
         signs = rightful x hx;
         repeats = λ e n. let y = repeats-by e n in (y .0, h0 (y .1));
+        pin1 = λ e. rw (← i .inv .codes) (carried-by e .passed .pin1);
         remaining = remaining-by;
         signedHashes = signed-by;
         ended = λ n e u. let y = ended-by n e u in (y .0, h0 (y .1));
@@ -270,6 +268,7 @@ module _ (sh : Sheet) (c : Card) (h : History) (i : Fits sh c h) (t : Call) wher
       record {
         signs = λ e. clash e refl;
         repeats = λ e n. clash e refl;
+        pin1 = λ e. clash e refl;
         remaining = λ e. clash e refl;
         signedHashes = λ e. clash e refl;
         ended = λ n e u. (refl, h0 (ended-by n e u .1));

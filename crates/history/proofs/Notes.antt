@@ -3,12 +3,10 @@ use Prim.Native.Nat.{ℕ, _≤_, _<_}
 use native.Mathlib.Omega.{arith}
 use mathlib.Core.Path.{_≡_, refl, sym, ap, _∙_, subst}
 use mathlib.Core.List.{List, [], _∷_}
-use mathlib.Core.Bool.{Bool, true, false, cond, not, _||_}
+use mathlib.Core.Bool.{true, false, not}
 use lib.ListN.{length}
 use lib.Dec.{ltb, eqb}
 use borrow.Author.Tests.{ltb-true, eq-eqb}
-use Rattle.card.specs.declared.Flags.{Flags}
-use Rattle.card.specs.declared.Issuer.{Issuer}
 use Rattle.card.specs.declared.Face.{Face}
 use Rattle.card.specs.declared.Card.{Card}
 use Rattle.card.specs.Image.{decode}
@@ -18,16 +16,16 @@ use Rattle.manual.specs.declared.Command.the-variants.{ReadCard, CreateWallet, 
 use Rattle.manual.specs.declared.Matched.{Matched}
 use Rattle.manual.specs.Request.{command, payload}
 use Rattle.manual.specs.Row.{Question}
-use Rattle.manual.specs.Wallet.{readCard, createWallet, setPin, sign, purgeWallet, isNew, count, signedFace}
+use Rattle.manual.specs.Wallet.{readCard, createWallet, setPin, sign, purgeWallet, isNew}
 use Rattle.manual.specs.Checking.{checkWallet, verifyCard, validateCard}
 use Rattle.manual.specs.Storage.{guarded, sentCounter, keptCounter, readUserData, writeUserData, writeIssuerData, readIssuerData}
 use Rattle.manual.specs.Commands.{row}
 use Rattle.manual.specs.Settle.{matched, Said, refused, done, saidTo, cardAfter, settled, settledOf, lent, roomy}
-use Rattle.history.specs.Sums.{code, tap, isDone, accepted, ins, did}
-use Rattle.history.specs.Demands.{AnyCard, Call, askBy, settleBy, settleStop, Demand2, questions, response, image, tapBy, imageBy, left}
-use Rattle.history.specs.Facts.{isRefusal, Unchanged, Refused, NoteUpTo, noteCounter, protected}
-use Rattle.history.proofs.Choice.{by-cases, both-true, clash, or-false, ins-note, is-note}
-use Rattle.history.proofs.Taps.{accepts, Passed, by-outcome, by-tap, Carried, carried}
+use Rattle.history.specs.Sums.{tap, isDone, accepted, ins, did}
+use Rattle.history.specs.Demands.{AnyCard, Call, Demand2, response, image, tapBy, imageBy, left}
+use Rattle.history.specs.Facts.{isRefusal, Refused, NoteUpTo, noteCounter, protected}
+use Rattle.history.proofs.Choice.{by-cases, clash, or-false, ins-note, is-note}
+use Rattle.history.proofs.Taps.{accepts, Passed, by-outcome, by-tap, carried}
 use Rattle.history.proofs.Cards.{after, xs}
 use Rattle.history.proofs.Next.{did-is}
 use Rattle.history.proofs.Images.{model, by-call, response-is, image-is, asks-none}

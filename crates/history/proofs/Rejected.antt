@@ -1,13 +1,10 @@
 -- THE WRONG CARDS of specs/Wrong.antt, each shown to be rejected by the demand named: one call, or a few, on which it differs. Assumes nothing.
-use Prim.Native.Nat.{ℕ, _+_}
+use Prim.Native.Nat.{ℕ}
 use native.Mathlib.Omega.{arith}
 use mathlib.Core.Path.{_≡_, refl, ap}
 use mathlib.Core.List.{List, [], _∷_}
-use mathlib.Core.Bool.{true}
-use lib.ListN.{length, getD, replicate}
-use Rattle.wire.specs.Wire.{be4}
+use lib.ListN.{getD, replicate}
 use Rattle.fields.specs.Fields.{fld}
-use Rattle.manual.specs.Settle.{Settled}
 use Rattle.history.specs.Demands.{AnyCard, Call, settleBy, Demand2, left, Demand3}
 use Rattle.history.specs.Wrong.{refuser, yesSayer, forgetter, repeater, proud, oldCard, greedy, hasty, hoarder}
 use Rattle.history.proofs.Images.{model}

@@ -1,15 +1,15 @@
 -- RESPONSES AND QUESTIONS have at most 2,048 bytes, the least that a buffer for them has. Assumes nothing.
 use Prim.Native.Nat.{ℕ, zero, suc, _+_, _-_, _*_, _≤_}
 use native.Mathlib.Omega.{arith}
-use mathlib.Core.Path.{_≡_, refl, sym, ap, _∙_}
+use mathlib.Core.Path.{_≡_, refl, ap}
 use mathlib.Core.List.{List, [], _∷_, _++_}
-use mathlib.Core.Bool.{Bool, true, false, cond, not, _&&_, _||_}
-use lib.ListN.{length, take, drop, length-append, length-take}
-use lib.Dec.{ltb, leb, eqb}
+use mathlib.Core.Bool.{Bool, true, false, cond, not, _||_}
+use lib.ListN.{length, drop, length-append, length-take}
+use lib.Dec.{leb, eqb}
 use borrow.Author.Tests.{leb-true, eqb-true}
-use Rattle.wire.specs.Wire.{be1, be2, be4, part, joined}
+use Rattle.wire.specs.Wire.{be1, be4, part, joined}
 use Rattle.wire.proofs.Laws.{part-small, joined-append}
-use Rattle.fields.specs.Fields.{Tagged, fld, tlv, each, written, has, val, Writable}
+use Rattle.fields.specs.Fields.{Tagged, fld, each, written, has, val, Writable}
 use Rattle.fields.proofs.Laws.{head-small}
 use Rattle.fields.proofs.Trip.{length-tlv}
 use Rattle.card.specs.declared.Block.{Block}
@@ -18,17 +18,17 @@ use Rattle.card.specs.Values.{keyOf, blockOf, lastOf}
 use Rattle.manual.specs.declared.Command.{Command}
 use Rattle.manual.specs.declared.Command.the-variants.{ReadCard, CreateWallet, CheckWallet, SetPin, Sign, VerifyCard, ValidateCard, PurgeWallet, ReadUserData, WriteUserData, WriteIssuerData, ReadIssuerData}
 use Rattle.manual.specs.declared.Matched.{Matched}
-use Rattle.manual.specs.Row.{Question, headOf, eachAsked, asked}
+use Rattle.manual.specs.Row.{Question, eachAsked, asked}
 use Rattle.manual.specs.Wallet.{isLoaded, isActive, curveName, walletFields, activeFields, readFields, readCard, createWallet, setPin, sign, purgeWallet, isNew, count, hashQuestions}
-use Rattle.manual.specs.Checking.{salt, keySalt, challenged, keyAsked, keyAlone, checkFields, keyMessage, checkQuestions, keyFields, checkWallet, verifyCard, validateCard}
-use Rattle.manual.specs.Storage.{heldField, isData, isNumber, modeOk, guarded, counterBytes, issuerFields, noteFields, counterField, readUserData, writeUserData, writeIssuerData, readIssuerData}
+use Rattle.manual.specs.Checking.{keySalt, challenged, keyAsked, keyAlone, checkFields, keyMessage, keyFields, checkWallet, verifyCard, validateCard}
+use Rattle.manual.specs.Storage.{heldField, isData, isNumber, modeOk, guarded, counterBytes, noteFields, counterField, readUserData, writeUserData, writeIssuerData, readIssuerData}
 use Rattle.manual.specs.Commands.{row}
 use Rattle.manual.specs.Settle.{fieldsOf}
-use Rattle.image.specs.Shape.{ShapeFixed, ShapeIssuer, ShapeFace}
+use Rattle.image.specs.Shape.{ShapeFace}
 use Rattle.history.proofs.Choice.{by-cases, both-true, or-false}
 use Rattle.history.proofs.Taps.{Passed}
 use Rattle.history.proofs.Told.{part-short, writes}
-use Rattle.history.proofs.Next.{few, needed}
+use Rattle.history.proofs.Next.{few}
 
 -- RESPONSES. Each field has at most four bytes beside its value
 abbrev weight : List Tagged → ℕ

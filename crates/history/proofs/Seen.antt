@@ -1,8 +1,8 @@
 -- What a history shows, together, and what one more tap adds to it. Assumes nothing.
 use Prim.Native.Nat.{ℕ, _+_}
-use mathlib.Core.Path.{_≡_, refl, sym, ap, _∙_}
-use mathlib.Core.List.{List, [], _∷_}
-use mathlib.Core.Bool.{Bool, true, false, cond, _&&_, _||_}
+use mathlib.Core.Path.{_≡_, refl}
+use mathlib.Core.List.{List, _∷_}
+use mathlib.Core.Bool.{Bool, true, false, cond}
 use lib.Dec.{eqb}
 use Rattle.fields.specs.Fields.{val}
 use Rattle.card.specs.declared.Codes.{Codes}
@@ -12,7 +12,7 @@ use Rattle.manual.specs.declared.Command.{Command}
 use Rattle.manual.specs.declared.Command.the-variants.{ReadCard, CreateWallet, CheckWallet, SetPin, Sign, VerifyCard, ValidateCard, PurgeWallet, ReadUserData, WriteUserData, WriteIssuerData, ReadIssuerData}
 use Rattle.manual.specs.Request.{command, payload}
 use Rattle.manual.specs.Wallet.{isNew, count, newCodes}
-use Rattle.history.specs.Sums.{code, Sheet, Tap, History, bodyOf, accepted, ins, did, signedNew, wallets, status, everPurged, made, total, codes, given}
+use Rattle.history.specs.Sums.{code, Sheet, Tap, History, bodyOf, accepted, ins, wallets, status, everPurged, made, total, codes, given}
 use Rattle.history.proofs.Choice.{ins-create, ins-pin, ins-sign, ins-purge}
 
 pub record Seen : Type 0 where

@@ -1,17 +1,17 @@
 -- WHAT IS LEFT OF A CARD IS A CARD: command by command, then of every tap. Assumes nothing.
-use Prim.Native.Nat.{ℕ, _+_, _*_, _≤_, _<_}
+use Prim.Native.Nat.{ℕ, _+_, _≤_, _<_}
 use native.Mathlib.Omega.{arith}
-use mathlib.Core.Path.{_≡_, refl, sym, ap, _∙_}
-use mathlib.Core.List.{List, [], _∷_}
+use mathlib.Core.Path.{_≡_, refl, ap}
+use mathlib.Core.List.{List, []}
 use mathlib.Core.Bool.{Bool, true, false, cond, not, _&&_, _||_}
 use lib.ListN.{length, getD}
-use lib.Dec.{ltb, leb, eqb}
+use lib.Dec.{leb, eqb}
 use borrow.Author.Tests.{ltb-true, leb-true, eqb-true}
 use Rattle.fields.specs.Fields.{has, val}
 use Rattle.card.specs.declared.Block.{Block}
 use Rattle.card.specs.declared.Face.{Face}
 use Rattle.card.specs.declared.Card.{Card}
-use Rattle.card.specs.Values.{created, spent, purged, risen, heldKey, heldBlock, heldIssuer, heldLast, checkedOnce, validatedOnce, withUser, withProtected, withWallet, withCounters}
+use Rattle.card.specs.Values.{created, spent, purged, risen, heldKey, heldIssuer, heldLast, checkedOnce, validatedOnce, withUser, withProtected, withWallet, withCounters}
 use Rattle.card.specs.Valid.{keySize, okBlock, okFace}
 use Rattle.manual.specs.declared.Command.{Command}
 use Rattle.manual.specs.declared.Command.the-variants.{ReadCard, CreateWallet, CheckWallet, SetPin, Sign, VerifyCard, ValidateCard, PurgeWallet, ReadUserData, WriteUserData, WriteIssuerData, ReadIssuerData}
@@ -21,10 +21,10 @@ use Rattle.manual.specs.Request.{command, payload}
 use Rattle.manual.specs.Row.{shaped, sizes, allowed}
 use Rattle.manual.specs.Wallet.{readCard, createWallet, setPin, sign, purgeWallet, isNew, count, signedFace}
 use Rattle.manual.specs.Checking.{checkWallet, verifyCard, validateCard}
-use Rattle.manual.specs.Storage.{isData, blockSent, numberSent, anySent, userFields, storedBlock, storedCounters, modeOk, guarded, isNumber, issuerFields, keptCounter, readUserData, writeUserData, writeIssuerData, readIssuerData}
+use Rattle.manual.specs.Storage.{isData, blockSent, numberSent, anySent, storedBlock, storedCounters, modeOk, keptCounter, readUserData, writeUserData, writeIssuerData, readIssuerData}
 use Rattle.manual.specs.Commands.{row}
 use Rattle.manual.specs.Settle.{matched, done}
-use Rattle.image.proofs.Tests.{Valid, valid, flagged}
+use Rattle.image.proofs.Tests.{valid, flagged}
 use Rattle.image.proofs.Kept.{keeps-create, keeps-sign, keeps-purge, held-key-ok, held-block-ok, held-issuer-ok, held-last-ok, purged-key-ok}
 use Rattle.image.proofs.Next.{ok-wallet-key, ok-wallet, ok-counters, ok-user, ok-protected, ok-issuer, ok-last}
 use Rattle.history.proofs.Choice.{by-cases, both-true, clash, or-false}

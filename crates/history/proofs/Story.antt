@@ -1,8 +1,8 @@
 -- A sheet, calls under it, and a story that they tell: what demand 3 speaks of, computed. Assumes nothing.
-use Prim.Native.Nat.{ℕ, _+_, _-_}
+use Prim.Native.Nat.{ℕ, _+_}
 use mathlib.Core.Path.{_≡_, refl}
 use mathlib.Core.List.{List, [], _∷_, _++_}
-use mathlib.Core.Bool.{Bool, true, false}
+use mathlib.Core.Bool.{true}
 use lib.ListN.{length, replicate}
 use Rattle.wire.specs.Wire.{be2, be4, joined, part, put, room, fit, placed, alike, allZero}
 use Rattle.fields.specs.Fields.{Tagged, fld, written, each, tlv, headOf, holds, has, val, wellFormed, restFrom, runN, stepAt, fieldAt}

@@ -1,12 +1,12 @@
 -- What a tap is: a response read back; and the cases of a tap: refused, stuck, or carried out. Assumes nothing.
-use Prim.Native.Nat.{ℕ, zero, suc, _+_, _-_, _*_, _/_, _%_, _≤_, _<_}
+use Prim.Native.Nat.{ℕ, _+_, _-_, _/_, _%_, _≤_}
 use native.Mathlib.Omega.{arith}
-use mathlib.Core.Path.{_≡_, refl, sym, ap, _∙_, subst}
+use mathlib.Core.Path.{_≡_, refl, sym, _∙_}
 use mathlib.Core.List.{List, [], _∷_, _++_}
-use mathlib.Core.Bool.{Bool, true, false, cond, not, _&&_, _||_}
-use lib.ListN.{length, getD, take, drop, length-append}
+use mathlib.Core.Bool.{true, false, not, _&&_, _||_}
+use lib.ListN.{length, getD, length-append}
 use lib.Seq.{take-at, getD-append-add, getD-append-seam}
-use lib.Dec.{ltb, leb, eqb}
+use lib.Dec.{eqb}
 use borrow.Author.Tests.{le-leb}
 use Rattle.wire.specs.Wire.{be2}
 use Rattle.fields.specs.Fields.{has, val, holds, written, Tagged, Writable, among, firstOf}
@@ -18,9 +18,9 @@ use Rattle.card.specs.declared.Last.{Last}
 use Rattle.card.specs.declared.Face.{Face}
 use Rattle.manual.specs.declared.Matched.{Matched}
 use Rattle.manual.specs.declared.Verdict.{Verdict}
-use Rattle.manual.specs.declared.Verdict.the-variants.{Pass, Stop}
+use Rattle.manual.specs.declared.Verdict.the-variants.{Stop}
 use Rattle.manual.specs.Request.{command, payload}
-use Rattle.manual.specs.Row.{Question, shaped, Row, Rule, gateOf, allowed, headRules, entryRules, ownRules, rules, passed}
+use Rattle.manual.specs.Row.{Question, shaped, Row, Rule, gateOf, allowed, rules, passed}
 use Rattle.manual.specs.Commands.{row}
 use Rattle.manual.specs.Settle.{judged, Said, silent, refused, done, answered, saidBy, said, questionsOf}
 use Rattle.history.specs.Sums.{bodyOf, lastWord, isDone, accepted}

@@ -1,13 +1,12 @@
 -- THE THEOREMS of any card that meets demand 2: demands 1 and 3, and that demand 2 leaves nothing open. Assumes nothing.
-use Prim.Native.Nat.{ℕ, _+_, _≤_}
+use Prim.Native.Nat.{ℕ, _+_}
 use native.Mathlib.Omega.{arith}
 use mathlib.Core.Path.{_≡_, refl, sym, ap, _∙_, subst}
-use mathlib.Core.List.{List, [], _∷_, _++_}
-use mathlib.Core.Bool.{Bool, true, false, cond, _&&_}
-use lib.ListN.{length, take, drop, length-append}
+use mathlib.Core.List.{List, [], _++_}
+use mathlib.Core.Bool.{Bool, true, false, cond}
+use lib.ListN.{length, drop, length-append}
 use lib.Seq.{take-at}
 use lib.Dec.{leb, eqb}
-use borrow.Author.Tests.{le-leb, leb-true, eqb-true, eqb-false}
 use Rattle.wire.specs.Wire.{be2, joined}
 use Rattle.wire.proofs.Parts.{Bytes}
 use Rattle.fields.specs.Fields.{written}
@@ -22,20 +21,20 @@ use Rattle.manual.specs.declared.Matched.{Matched}
 use Rattle.manual.specs.Request.{command, payload}
 use Rattle.manual.specs.Row.{Question, asked, eachAsked, shaped, rules, passed}
 use Rattle.manual.specs.Commands.{row}
-use Rattle.manual.specs.Settle.{matched, judged, wordOf, Said, refused, done, answered, said, saidBy, saidTo, cardAfter, fieldsOf, questionsOf, Posed, Settled, settled, settledOf, settledBy, lent, untouched, outcome, over, askedFor, askedOf, posed, posedBy, roomy}
+use Rattle.manual.specs.Settle.{matched, judged, wordOf, Said, refused, done, answered, said, saidBy, saidTo, cardAfter, fieldsOf, questionsOf, Settled, settled, settledOf, settledBy, lent, untouched, outcome, over, askedFor, askedOf, posed, posedBy, roomy}
 use Rattle.image.specs.Shape.{Shape}
 use Rattle.image.proofs.Shape.{length-encode}
-use Rattle.image.proofs.Round.{decode-encode, shape-decode, is-card-length, is-card-face, card-image, is-card-encode}
-use Rattle.history.specs.Sums.{isDone, accepted}
+use Rattle.image.proofs.Round.{shape-decode, is-card-length, is-card-face, card-image, is-card-encode}
+use Rattle.history.specs.Sums.{isDone}
 use Rattle.history.specs.Facts.{Unchanged, Agree}
-use Rattle.history.specs.Demands.{AnyCard, Call, askBy, settleBy, stop, askStop, settleStop, Asked, noneAsked, allAsked, Ended, shapeless, refusal, carriedOut, Demand1, Demand2, questions, response, image, imageBy, Demand3}
+use Rattle.history.specs.Demands.{AnyCard, Call, askBy, settleBy, stop, askStop, settleStop, Asked, noneAsked, allAsked, Ended, shapeless, refusal, carriedOut, Demand1, Demand2, image, imageBy, Demand3}
 use Rattle.history.proofs.Choice.{by-cases, clash}
-use Rattle.history.proofs.Taps.{by-checks, words, Passed, named, Same, by-outcome, by-tap}
-use Rattle.history.proofs.Cards.{done-is, after, xs, shape-after}
+use Rattle.history.proofs.Taps.{by-checks, words, Passed, named, by-outcome, by-tap}
+use Rattle.history.proofs.Cards.{done-is, after}
 use Rattle.history.proofs.Keeps.{next-shape, code-shape}
 use Rattle.history.proofs.Stay.{stays, stays-tap}
 use Rattle.history.proofs.Room.{response-fits, questions-fit}
-use Rattle.history.proofs.Images.{model, quiet, read-image, by-call, response-is, shape-is, image-bytes, image-is, asks-all, model-demand3, is-model}
+use Rattle.history.proofs.Images.{model, quiet, by-call, shape-is, image-bytes, image-is, model-demand3, is-model}
 
 -- DEMAND 3 follows from demand 2
 pub demand3 : (f : AnyCard) → Demand2 f → Demand3 f

@@ -1,13 +1,13 @@
 -- What a response tells of the card: its fields can be written, and Remaining and Signed_Hashes are those of the card after. Assumes nothing.
-use Prim.Native.Nat.{ℕ, zero, suc, _+_, _-_, _*_, _≤_, _<_}
+use Prim.Native.Nat.{ℕ, _+_, _-_, _*_, _≤_}
 use native.Mathlib.Omega.{arith}
-use mathlib.Core.Path.{_≡_, refl, sym, ap, _∙_, subst}
+use mathlib.Core.Path.{_≡_, refl, _∙_}
 use mathlib.Core.List.{List, [], _∷_, _++_}
-use mathlib.Core.Bool.{Bool, true, false, cond, not, _&&_, _||_}
-use lib.ListN.{length, take, drop, replicate, length-take, length-drop, length-replicate}
+use mathlib.Core.Bool.{Bool, true, false, cond, _||_}
+use lib.ListN.{length, take, drop, length-take, length-drop}
 use lib.Dec.{leb, eqb}
 use borrow.Author.Tests.{eqb-true}
-use Rattle.wire.specs.Wire.{be4, part, pad, fit}
+use Rattle.wire.specs.Wire.{be4, part}
 use Rattle.wire.proofs.Laws.{part-small, by-cases}
 use Rattle.fields.specs.Fields.{Tagged, fld, Writable, among, firstOf}
 use Rattle.card.specs.declared.Block.{Block}
@@ -18,13 +18,13 @@ use Rattle.manual.specs.declared.Command.the-variants.{ReadCard, CreateWallet, 
 use Rattle.manual.specs.declared.Matched.{Matched}
 use Rattle.manual.specs.declared.Needs.{Needs}
 use Rattle.manual.specs.Row.{allowed}
-use Rattle.manual.specs.Wallet.{isLoaded, isActive, curveName, walletFields, activeFields, readFields, readCard, createWallet, setPin, sign, purgeWallet, isNew, signedFace, count}
+use Rattle.manual.specs.Wallet.{isLoaded, isActive, curveName, readFields, readCard, createWallet, setPin, sign, purgeWallet, isNew, signedFace, count}
 use Rattle.manual.specs.Checking.{keyAsked, keyAlone, keyFields, checkWallet, verifyCard, validateCard}
-use Rattle.manual.specs.Storage.{heldField, noteFields, counterField, guarded, readUserData, writeUserData, writeIssuerData, readIssuerData}
+use Rattle.manual.specs.Storage.{heldField, noteFields, guarded, readUserData, writeUserData, writeIssuerData, readIssuerData}
 use Rattle.manual.specs.Commands.{row}
 use Rattle.manual.specs.Settle.{fieldsOf}
 use Rattle.history.proofs.Choice.{clash}
-use Rattle.image.specs.Shape.{ShapeFixed, ShapeIssuer, ShapeFace}
+use Rattle.image.specs.Shape.{ShapeIssuer, ShapeFace}
 use Rattle.history.proofs.Taps.{Passed, Watched, watch}
 
 -- A part is at most as long as is asked for, and as what it is a part of

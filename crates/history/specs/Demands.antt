@@ -1,5 +1,5 @@
 -- DEMANDS 1 TO 3, of any card: two calls on bytes, and what they return and leave. Assumes nothing.
-use Prim.Native.Nat.{ℕ, suc, _+_, _-_, _*_, _≤_}
+use Prim.Native.Nat.{ℕ, _+_, _-_, _*_, _≤_}
 use mathlib.Core.Path.{_≡_}
 use mathlib.Core.List.{List, [], _∷_, _++_}
 use mathlib.Core.Bool.{Bool, true, false, cond}
@@ -10,7 +10,7 @@ use Rattle.wire.proofs.Parts.{Bytes}
 use Rattle.fields.specs.Fields.{has, val, holds, written, fld}
 use Rattle.card.specs.declared.Card.{Card}
 use Rattle.card.specs.Values.{fresh}
-use Rattle.card.specs.Image.{encode, decode}
+use Rattle.card.specs.Image.{decode}
 use Rattle.card.specs.Valid.{isCard}
 use Rattle.manual.specs.Request.{payload}
 use Rattle.manual.specs.Row.{asked}
@@ -127,6 +127,7 @@ pub record Rightful (sh : Sheet) (h : History) (i : Call) (x r : List ℕ) : Typ
 pub record OneMore (sh : Sheet) (h : History) (i : Call) (x r : List ℕ) : Type 0 where
   pub signs : signedNew (tap (i .request) r) ≡ true → Rightful sh h i x r
   pub repeats : did 0xFB (tap (i .request) r) ≡ true → isNew (payload (i .request)) ≡ false → (r ≡ signResponse sh (tap (i .request) r ∷ h) (given h)) × (x ≡ [])
+  pub pin1 : accepted r ≡ true → holds 0x10 (payload (i .request)) (codes sh h .pin1) ≡ true
   pub remaining : accepted r ≡ true → has 0x62 (bodyOf r) ≡ true → val 0x62 (bodyOf r) ≡ be4 (sh .fixed .max - made (tap (i .request) r ∷ h))
   pub signedHashes : accepted r ≡ true → has 0x63 (bodyOf r) ≡ true → val 0x63 (bodyOf r) ≡ be4 (total (tap (i .request) r ∷ h))
   pub ended : sh .flags .reusable ≡ 0 → everPurged h ≡ true → usesWallet (ins (i .request)) ≡ true → (accepted r ≡ false) × (x ≡ [])

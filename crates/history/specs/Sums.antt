@@ -1,7 +1,7 @@
 -- What a history shows: sums over its taps, of the sheet, the requests and the responses alone. No card is looked into. Assumes nothing.
-use Prim.Native.Nat.{ℕ, _+_, _-_, _≤_}
+use Prim.Native.Nat.{ℕ, _+_, _-_}
 use mathlib.Core.List.{List, [], _∷_}
-use mathlib.Core.Bool.{Bool, true, false, cond, _&&_, _||_}
+use mathlib.Core.Bool.{Bool, false, cond, _&&_, _||_}
 use lib.ListN.{length, getD, take}
 use lib.Dec.{leb, eqb}
 use Rattle.wire.specs.Wire.{num16}
