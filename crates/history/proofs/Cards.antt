@@ -1,7 +1,7 @@
 -- One more tap on a card: what it keeps, and what demand 3 says of it. Assumes nothing.
 use Prim.Native.Nat.{ℕ, _+_, _-_, _≤_}
 use native.Mathlib.Omega.{arith}
-use mathlib.Core.Path.{_≡_, sym, _∙_}
+use mathlib.Core.Path.{_≡_, refl, sym, _∙_}
 use mathlib.Core.List.{List, [], _∷_}
 use mathlib.Core.Bool.{Bool, true, false, cond}
 use borrow.Author.Tests.{le-leb}
@@ -22,7 +22,7 @@ use Rattle.history.specs.Sums.{Sheet, History, tap, bodyOf, isDone, acce
 use Rattle.image.specs.Shape.{ShapeFace, Shape}
 use Rattle.history.proofs.Taps.{accepts, val-told, Passed, watch, Same, by-tap}
 use Rattle.history.proofs.Told.{writes}
-use Rattle.history.proofs.Seen.{look, shows, look-step}
+use Rattle.history.proofs.Seen.{look, look-none, tests}
 use Rattle.history.proofs.Keeps.{Inv, keeps, next-shape, code-shape}
 
 -- a command adds at most 3 to 9000
@@ -92,10 +92,10 @@ module _ (sh : Sheet) (c : Card) (h : History) (q d a : List ℕ) (i : Fits sh c
   f = c .face
 
   abbrev Goal : Said → List Question → Type 0
-  Goal z y = Inv sh (watch (z .face)) (recoded k (z .executed) p (c .codes)) (cond (accepted (z .response)) (shows k (sh .flags) p (val 0x61 (bodyOf (z .response))) (look sh h)) (look sh h))
+  Goal z y = Inv sh (watch (z .face)) (recoded k (z .executed) p (c .codes)) (look sh (tap q (z .response) ∷ h))
 
   stays : (z : Said) → Same f z → Goal z []
-  stays z e = rw (e .face, e .codes, e .answer) (i .inv)
+  stays z e = rw (e .face, e .codes, look-none sh (tap q (z .response)) h (e .answer)) (i .inv)
 
   told61 : (face-after : ShapeFace (row k .next f p a)) → firstOf 0x61 (fieldsOf (row k) (row k .next f p a) p d a) ≡ val 0x61 (bodyOf (done (row k) m f p d a .response))
   unfolding done
@@ -103,12 +103,10 @@ module _ (sh : Sheet) (c : Card) (h : History) (q d a : List ℕ) (i : Fits sh c
 
   keeps-done : Passed (row k) m f p → Goal (done (row k) m f p d a) []
   unfolding done
-  keeps-done y =
-      rw (done-accepted k m f p d a)
-      (keeps sh f (c .codes) (look sh h) (i .inv) k m p d a _ y (told61 (next-shape k f p a (i .shape .face))))
+  keeps-done y = keeps sh f (c .codes) h q (done (row k) m f p d a .response) (i .inv) (done-accepted k m f p d a) k m d a (tests q) y (told61 (next-shape k f p a (i .shape .face)))
 
   inv-tap : Inv sh (watch (after c q d a .face)) (after c q d a .codes) (look sh (tap q (saidTo c q d a .response) ∷ h))
-  inv-tap = rw (look-step sh (tap q (saidTo c q d a .response)) h) (by-tap Goal m f q d a (λ w x z. stays _ z) (λ _ s z. stays s z) (λ y g. keeps-done y))
+  inv-tap = by-tap Goal m f q d a (λ w x z. stays _ z) (λ _ s z. stays s z) (λ y g. keeps-done y)
 
   pub fits-tap : Fits sh (after c q d a) (tap q (saidTo c q d a .response) ∷ h)
   fits-tap = record { inv = inv-tap; shape = shape-after c q d a (i .shape) }
@@ -116,4 +114,4 @@ module _ (sh : Sheet) (c : Card) (h : History) (q d a : List ℕ) (i : Fits sh c
 -- where a call gave no response
 pub fits-none : (sh : Sheet) (c : Card) (h : History) (q : List ℕ) → Fits sh c h → Fits sh c (tap q [] ∷ h)
 unfolding accepted
-fits-none sh c h q i = record { inv = rw (look-step sh (tap q []) h) (i .inv); shape = i .shape }
+fits-none sh c h q i = record { inv = rw (look-none sh (tap q []) h refl) (i .inv); shape = i .shape }

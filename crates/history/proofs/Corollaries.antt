@@ -13,16 +13,20 @@ use Rattle.fields.proofs.Laws.{length-short, length-long}
 use Rattle.fields.proofs.Trip.{value-at, length-tlv}
 use Rattle.card.specs.declared.Card.{Card}
 use Rattle.card.specs.Values.{fresh}
-use Rattle.card.specs.Image.{decode}
+use Rattle.card.specs.Image.{encode, decode}
+use Rattle.card.specs.Valid.{curveKnown, okFlags}
 use Rattle.manual.specs.declared.Command.{Command}
 use Rattle.manual.specs.declared.Matched.{Matched}
 use Rattle.manual.specs.Request.{command, payload}
-use Rattle.manual.specs.Wallet.{sign, isNew, count}
+use Rattle.manual.specs.Row.{asked}
+use Rattle.manual.specs.Wallet.{sign, isNew, count, hashQuestions}
 use Rattle.manual.specs.Commands.{row}
 use Rattle.manual.specs.Settle.{matched, done, saidTo, cardAfter}
-use Rattle.image.proofs.Round.{shape-decode}
-use Rattle.history.specs.Sums.{Sheet, tap, accepted, did, signedNew}
-use Rattle.history.specs.Demands.{AnyCard, Call, settleBy, Demand2, response, image, tapBy, imageBy, left, Fresh}
+use Rattle.image.specs.Shape.{ShapeCodes, ShapeFixed}
+use Rattle.image.proofs.Round.{decode-encode, shape-decode}
+use Rattle.image.proofs.Fresh.{shape-fresh, fresh-is-card}
+use Rattle.history.specs.Sums.{Sheet, tap, bodyOf, accepted, did, signedNew, wallets}
+use Rattle.history.specs.Demands.{AnyCard, Call, askBy, settleBy, Demand2, questions, response, image, tapBy, imageBy, left, played, Fresh, Demand3}
 use Rattle.history.specs.Facts.{Unchanged, Cost, place}
 use Rattle.history.proofs.Choice.{both-true, clash}
 use Rattle.history.proofs.Taps.{Passed, carried}
@@ -122,3 +126,21 @@ signatures-stand f h sh m e is i n =
     let c : length (sh .fixed .cid) ≡ 8 = subst (λ (z : Card). length (z .face .fixed .cid) ≡ 8) (e .spells) (shape-decode m .face .fixed .cid) in
     ap (λ r. part r (place (count (payload (i .request)))) (count (payload (i .request)) * 64)) (x .bytes)
     ∙ stand (sh .fixed .cid) (i .answers) _ _ 0x9000 (count (payload (i .request))) c (x .size) (sign-costs f h (left f m is) i n .few)
+
+-- THE PROVIDER: where the answers are what one made of the questions asked, whoever it is, the signatures told are what it makes of the live wallet's number, the curve and these hashes, in order
+pub provider-signs :
+    (f : AnyCard) → Demand3 f → (sh : Sheet) (m : List ℕ) → Fresh sh m → (is : List Call) (i : Call) → (provider : List ℕ → List ℕ)
+    → signedNew (tapBy f (left f m is) i) ≡ true
+    → 2048 ≤ length (i .page)
+    → i .answers ≡ provider (questions (askBy f (left f m is) i))
+    → val 0x61 (bodyOf (response (settleBy f (left f m is) i)))
+    ≡ provider (asked (hashQuestions (wallets (played f m [] is)) (sh .fixed .curve) (count (payload (i .request))) (val 0x50 (payload (i .request)))))
+provider-signs f h sh m e is i provider n l a = let x = h .next sh m e is i .signs n in x .answers ∙ (a ∙ ap provider (x .questions l))
+
+-- FRESH CARDS there are: the image of a sheet in its ranges
+pub fresh-image : (sh : Sheet) → ShapeFixed (sh .fixed) → ShapeCodes (sh .codes) → curveKnown (sh .fixed) ≡ true → 1 ≤ sh .fixed .max → okFlags (sh .flags) ≡ true → Fresh sh (encode (fresh (sh .fixed) (sh .flags) (sh .codes)))
+fresh-image sh x k curve max flags =
+    record {
+      card = fresh-is-card (sh .fixed) (sh .flags) (sh .codes) x k curve max flags;
+      spells = decode-encode (fresh (sh .fixed) (sh .flags) (sh .codes)) (shape-fresh (sh .fixed) (sh .flags) (sh .codes) x k);
+    }
