@@ -25,7 +25,7 @@ use Rattle.manual.specs.Settle.{matched, done, saidTo, cardAfter}
 use Rattle.image.specs.Shape.{ShapeCodes, ShapeFixed}
 use Rattle.image.proofs.Round.{decode-encode, shape-decode}
 use Rattle.image.proofs.Fresh.{shape-fresh, fresh-is-card}
-use Rattle.history.specs.Sums.{Sheet, tap, bodyOf, accepted, did, signedNew, wallets}
+use Rattle.history.specs.Sums.{Sheet, tap, bodyOf, isDone, accepted, did, signedNew, wallets}
 use Rattle.history.specs.Demands.{AnyCard, Call, askBy, settleBy, Demand2, questions, response, image, tapBy, imageBy, left, played, Fresh, Demand3}
 use Rattle.history.specs.Facts.{Unchanged, Cost, place}
 use Rattle.history.proofs.Choice.{both-true, clash}
@@ -33,7 +33,7 @@ use Rattle.history.proofs.Taps.{Passed, carried}
 use Rattle.history.proofs.Cards.{after}
 use Rattle.history.proofs.Next.{did-is, is-a-sign, needed, few}
 use Rattle.history.proofs.Images.{model, by-call, response-is, image-is}
-use Rattle.history.proofs.Theorems.{demand3, every, keeps-where}
+use Rattle.history.proofs.Theorems.{demand3, refusal-keeps, every, keeps-where}
 
 -- ON A CARD
 module _ (c : Card) (q d a : List ℕ) where
@@ -95,6 +95,10 @@ pub repeat-free : (f : AnyCard) → Demand2 f → (m : List ℕ) (i : Call) → 
 repeat-free =
     every (λ f. (m : List ℕ) (i : Call) → did 0xFB (tapBy f m i) ≡ true → isNew (payload (i .request)) ≡ false → Unchanged m (imageBy f m i))
     (λ m i e n. keeps-where (λ z. did 0xFB (tap (i .request) (response z)) ≡ true) m i (λ y. repeat-card (decode m) (i .request) (i .draw) (i .answers) (rw (response-is m i) at y) n) e)
+
+-- A REFUSED COMMAND has used nothing up: no signature, no hash, no counter
+pub refusal-free : (f : AnyCard) → Demand2 f → (m : List ℕ) (i : Call) → isDone (settleBy f m i .result .word) ≡ false → (decode (imageBy f m i) .face .wallet ≡ decode m .face .wallet) × (decode (imageBy f m i) .face .counters ≡ decode m .face .counters)
+refusal-free f h m i e = let u = refusal-keeps f h m i e .card in (ap (λ c. c .face .wallet) u, ap (λ c. c .face .counters) u)
 
 -- WHERE THE SIGNATURES STAND
 head-long : (n : ℕ) → 10 + length (headOf 0x61 (n * 64)) ≡ place n

@@ -8,6 +8,7 @@ use lib.ListN.{length, drop}
 use lib.Seq.{take-at}
 use lib.Dec.{leb, eqb}
 use borrow.Author.Tests.{le-leb}
+use Rattle.wire.specs.Wire.{joined}
 use Rattle.card.specs.declared.Card.{Card}
 use Rattle.card.specs.Image.{encode, decode}
 use Rattle.card.specs.Valid.{isCard}
@@ -96,7 +97,7 @@ module _ (m : List ℕ) (i : Call) where
 
   -- ask: zero questions where the card has none, whatever is lent
   pub asks-none : xs c (i .request) (i .draw) ≡ [] → questions (askBy model m i) ≡ []
-  unfolding askedFor askedOf asked eachAsked Rattle.wire.specs.Wire.joined
+  unfolding askedFor askedOf asked eachAsked joined
   asks-none e =
       by-cases (λ z. questions z ≡ []) (isCard m)
       (λ _. by-cases (λ z. questions z ≡ []) (leb 2048 (length (i .page))) (λ _. by-cases (λ z. questions z ≡ []) (eqb (length (i .draw)) 32) (λ _. rw e refl) (λ _. refl)) (λ _. refl))
@@ -139,6 +140,10 @@ model-demand3 =
           record { balance = i .balance; signedHashes = i .total; fits = omega (arith, i .total, i .fits) };
       next = λ sh m e is i. more-call sh (left model m is) (played model m [] is) i (fits-all sh m [] is (fits-fresh sh m e));
     }
+
+-- and demand 2, which is to be the manual
+pub model-demand2 : Demand2 model
+model-demand2 = record { asks = λ m q d page. refl; settles = λ m q d a out next. refl }
 
 -- a card that meets demand 2 is the manual
 pub is-model : (f : AnyCard) → Demand2 f → model ≡ f

@@ -9,7 +9,7 @@ use lib.Dec.{leb, eqb}
 use borrow.Author.Tests.{leb-true, eqb-true}
 use Rattle.wire.specs.Wire.{be2, be4, alike}
 use Rattle.image.proofs.Kept.{last-of-held}
-use Rattle.fields.specs.Fields.{has, val, holds, written, fld, firstOf}
+use Rattle.fields.specs.Fields.{has, val, holds, written, fld, among, firstOf}
 use Rattle.card.specs.declared.Face.{Face}
 use Rattle.card.specs.declared.Card.{Card}
 use Rattle.card.specs.Values.{lastOf}
@@ -28,6 +28,7 @@ use Rattle.history.specs.Demands.{Call, signResponse, Rightful, OneMore}
 use Rattle.history.proofs.Choice.{both-true, clash, or-false, ins-create, ins-check, ins-sign, is-sign}
 use Rattle.history.proofs.Taps.{has-told, val-told, Passed, watch, by-tap, Carried, carried}
 use Rattle.history.proofs.Told.{writes, Reports, reports, loaded, still}
+use Rattle.history.proofs.Seen.{look}
 use Rattle.history.proofs.Keeps.{Inv, next-shape}
 use Rattle.history.proofs.Cards.{after, xs, Fits, fits-tap}
 
@@ -159,7 +160,7 @@ module _ (sh : Sheet) (c : Card) (h : History) (i : Fits sh c h) (t : Call) wher
   carried-by e = carried m f q d a e
 
   -- the response to a tap that was accepted, by its fields
-  has-by : (tag : ℕ) → accepted r ≡ true → has tag (bodyOf r) ≡ Rattle.fields.specs.Fields.among tag (fieldsOf (row k) g p d a)
+  has-by : (tag : ℕ) → accepted r ≡ true → has tag (bodyOf r) ≡ among tag (fieldsOf (row k) g p d a)
   unfolding done
   has-by tag e = ap (λ z. has tag (bodyOf (z .response))) (carried-by e .isDone) ∙ has-told tag (0x9000 + row k .more m) (fieldsOf (row k) g p d a) (writes k g p d a (next-shape k f p a (i .shape .face)))
 
@@ -175,8 +176,8 @@ module _ (sh : Sheet) (c : Card) (h : History) (i : Fits sh c h) (t : Call) wher
   after-tap = fits-tap sh c h q d a i
 
   -- what is watched after a tap that was accepted
-  inv-after : accepted r ≡ true → Inv sh (watch g) (after c q d a .codes) (Rattle.history.proofs.Seen.look sh (tap q r ∷ h))
-  inv-after e = subst (λ z. Inv sh (watch z) (after c q d a .codes) (Rattle.history.proofs.Seen.look sh (tap q r ∷ h))) (face-after e) (after-tap .inv)
+  inv-after : accepted r ≡ true → Inv sh (watch g) (after c q d a .codes) (look sh (tap q r ∷ h))
+  inv-after e = subst (λ z. Inv sh (watch z) (after c q d a .codes) (look sh (tap q r ∷ h))) (face-after e) (after-tap .inv)
 
   reports-by : accepted r ≡ true → Reports (watch g) (fieldsOf (row k) g p d a)
   reports-by e = reports k m f p d a (carried-by e .passed)

@@ -5,10 +5,35 @@ use mathlib.Core.Path.{_≡_, refl, ap}
 use mathlib.Core.List.{List, [], _∷_}
 use lib.ListN.{getD, replicate}
 use Rattle.fields.specs.Fields.{fld}
+use Rattle.card.specs.declared.Card.{Card}
+use Rattle.card.specs.Image.{decode}
+use Rattle.manual.specs.declared.Verdict.{Verdict}
+use Rattle.manual.specs.declared.Verdict.the-variants.{Pass, Stop}
+use Rattle.manual.specs.Request.{payload}
+use Rattle.manual.specs.Commands.{row}
+use Rattle.manual.specs.Settle.{matched, judged, said, saidBy, questionsOf, settled, settledOf, askedFor, askedOf}
 use Rattle.history.specs.Demands.{AnyCard, Call, settleBy, Demand2, left, Demand3}
-use Rattle.history.specs.Wrong.{refuser, yesSayer, forgetter, repeater, proud, oldCard, greedy, hasty, hoarder}
+use Rattle.history.specs.Wrong.{outside, judgedBy, asksBy, saysBy, honest, refuser, yesSayer, forgetter, repeater, proud, oldCard, greedy, hasty, hoarder}
+use Rattle.history.proofs.Choice.{clash}
 use Rattle.history.proofs.Images.{model}
 use Rattle.history.proofs.Story.{run, sheet0, image0, fresh0, codes1, request, call, ask0, reads, creates, hashes, signs, signsTwo, purges, notes}
+
+-- THE FRAME of the wrong cards is right: with the manual's rows it meets demand 2
+same-asks : (v : Verdict) (c : Card) (q d : List ℕ) → asksBy row v c q d ≡ questionsOf v (c .face) q d
+same-asks (Pass k) c q d = refl
+same-asks (Stop n w) c q d = refl
+
+same-says : (v : Verdict) (c : Card) (q d a : List ℕ) → saysBy row v c q d a ≡ saidBy v (matched (c .codes) (payload q)) (c .face) q d a
+same-says (Pass k) c q d a = refl
+same-says (Stop n w) c q d a = refl
+
+pub honest-accepted : Demand2 (outside honest)
+unfolding askedFor askedOf settled settledOf said judged
+honest-accepted =
+    record {
+      asks = λ m q d page. rw (same-asks (judgedBy row (decode m) q) (decode m) q d) refl;
+      settles = λ m q d a out next. rw (same-says (judgedBy row (decode m) q) (decode m) q d a) refl;
+    }
 
 -- demand 2, at a call on the image that calls of the manual's own left
 by-manual : {f : AnyCard} → Demand2 f → (is : List Call) (i : Call) → settleBy f (left model image0 is) i ≡ settleBy model (left model image0 is) i
@@ -62,7 +87,7 @@ unfolding run
 hasty-rejected h =
     let setting : Call = ask0 0xFA (fld 0x12 (codes1 .pin1) ∷ fld 0x13 (codes1 .pin2) ∷ []) [] in
     let signing : Call = call (request codes1 0xFB (hashes 32)) (replicate 64 5) in
-    Rattle.history.proofs.Choice.clash {A = ⊥} (h .next sheet0 image0 fresh0 (creates ∷ setting ∷ []) signing .signs refl .pin1) refl
+    clash (h .next sheet0 image0 fresh0 (creates ∷ setting ∷ []) signing .signs refl .pin1) refl
 
 -- 9. keeps the purged key: its size, byte 98, is 0 after PURGE_WALLET
 pub hoarder-rejected : Demand2 hoarder → ⊥

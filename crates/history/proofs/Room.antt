@@ -18,7 +18,7 @@ use Rattle.card.specs.Values.{keyOf, blockOf, lastOf}
 use Rattle.manual.specs.declared.Command.{Command}
 use Rattle.manual.specs.declared.Command.the-variants.{ReadCard, CreateWallet, CheckWallet, SetPin, Sign, VerifyCard, ValidateCard, PurgeWallet, ReadUserData, WriteUserData, WriteIssuerData, ReadIssuerData}
 use Rattle.manual.specs.declared.Matched.{Matched}
-use Rattle.manual.specs.Row.{Question, eachAsked, asked}
+use Rattle.manual.specs.Row.{Question, question, eachAsked, asked}
 use Rattle.manual.specs.Wallet.{isLoaded, isActive, curveName, walletFields, activeFields, readFields, readCard, createWallet, setPin, sign, purgeWallet, isNew, count, hashQuestions}
 use Rattle.manual.specs.Checking.{keySalt, challenged, keyAsked, keyAlone, checkFields, keyMessage, keyFields, checkWallet, verifyCard, validateCard}
 use Rattle.manual.specs.Storage.{heldField, isData, isNumber, modeOk, guarded, counterBytes, noteFields, counterField, readUserData, writeUserData, writeIssuerData, readIssuerData}
@@ -181,7 +181,7 @@ questions-light CreateWallet m f p d s h = omega arith
 questions-light CheckWallet m f p d s h =
     let c = challenge p (both-true (challenged p) _ (h .fields) .0) in
     let x = part-short d 0 16 in
-    let q = Rattle.manual.specs.Row.question 4 (f .wallet .number) (f .fixed .curve) (keyMessage f p d) in
+    let q = question 4 (f .wallet .number) (f .fixed .curve) (keyMessage f p d) in
     let r : load (cond (keyAsked p) (q ∷ []) []) ≤ 206 = pick (keyAsked p) (q ∷ []) [] 206 (λ e. let k = key-message f p d s (h .fields) e in omega arith) (omega arith) in
     omega arith
 questions-light SetPin m f p d s h = omega arith

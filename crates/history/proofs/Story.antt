@@ -19,12 +19,11 @@ use Rattle.manual.specs.Storage.{readUserData, writeUserData, writeIssuerData, 
 use Rattle.manual.specs.Settle.{judged, said, done, answered, lent, settledOf, settled, Settled, roomy, askedOf, askedFor}
 use Rattle.history.specs.Sums.{Sheet, History, accepted, made, total, wallets, status, everPurged, given}
 use Rattle.history.specs.Demands.{AnyCard, Call, settleBy, left, played, Fresh}
-use Rattle.history.specs.Wrong.{signOnce, readProud, writeAgain, signEach, purgeHalf}
 use Rattle.history.proofs.Images.{model}
 
 -- a call as it runs: to unfold this is to unfold all that a call computes with
 unfoldable pub run : AnyCard → List ℕ → Call → Settled
-unfolding settled settledOf lent said judged answered done roomy askedFor askedOf asked eachAsked accepted lcOf insOf plain allowed shaped sizes wellFormed holds has val restFrom runN stepAt fieldAt written each joined tlv headOf part put room fit placed alike allZero fresh keyOf blockOf lastOf curveName hashQuestions readCard createWallet setPin sign purgeWallet checkWallet verifyCard validateCard readUserData writeUserData writeIssuerData readIssuerData encode encCodes encFace encFixed encFlags encWallet encKey encCounters encBlock encIssuer encLast decode decCodes decFace decFixed decFlags decWallet decKey decCounters decBlock decIssuer decLast isCard okFace okFlags okRanges okState okKey keySize okBlock okIssuer okLast signOnce readProud writeAgain signEach purgeHalf
+unfolding settled settledOf lent said judged answered done roomy askedFor askedOf asked eachAsked accepted lcOf insOf plain allowed shaped sizes wellFormed holds has val restFrom runN stepAt fieldAt written each joined tlv headOf part put room fit placed alike allZero fresh keyOf blockOf lastOf curveName hashQuestions readCard createWallet setPin sign purgeWallet checkWallet verifyCard validateCard readUserData writeUserData writeIssuerData readIssuerData encode encCodes encFace encFixed encFlags encWallet encKey encCounters encBlock encIssuer encLast decode decCodes decFace decFixed decFlags decWallet decKey decCounters decBlock decIssuer decLast isCard okFace okFlags okRanges okState okKey keySize okBlock okIssuer okLast
 run f m i = settleBy f m i
 
 -- THE SHEET: reusable, no CVC, PIN1 may not change, five signatures, replay protection

@@ -104,14 +104,15 @@ pub record Fresh (sh : Sheet) (m : List ℕ) : Type 0 where
   pub card : isCard m ≡ true
   pub spells : decode m ≡ fresh (sh .fixed) (sh .flags) (sh .codes)
 
--- DEMAND 3. h is the history so far, i the call made next, x the questions asked for it, r the response to it
+-- DEMAND 3. Below, h is the history so far, i the call made next, x the questions that ask wrote for it, r the response to it
 -- SIGN's response: CID, signatures, Remaining and Signed_Hashes as the history h has them with this tap
 abbrev pub signResponse : Sheet → History → List ℕ → List ℕ
 signResponse sh h signatures =
     written (fld 0x01 (sh .fixed .cid) ∷ fld 0x61 signatures ∷ fld 0x62 (be4 (sh .fixed .max - made h)) ∷ fld 0x63 (be4 (total h)) ∷ [])
     ++ be2 0x9000
 
--- of a SIGN that made new signatures
+-- a SIGN that made new signatures did so on an activated card with a live wallet, on PIN1, PIN2 and, where used, CVC as the history shows them to be in force; it asked
+-- for that wallet and those hashes, in order, and the answers to that are the signatures told, which stand in the response where `bytes` says
 pub record Rightful (sh : Sheet) (h : History) (i : Call) (x r : List ℕ) : Type 0 where
   pub activated : sh .flags .active ≡ 1
   pub alive : status sh h ≡ 2
@@ -123,7 +124,8 @@ pub record Rightful (sh : Sheet) (h : History) (i : Call) (x r : List ℕ) : Typ
   pub answers : val 0x61 (bodyOf r) ≡ i .answers
   pub bytes : r ≡ signResponse sh (tap (i .request) r ∷ h) (i .answers)
 
--- of one more call
+-- ONE MORE CALL: new signatures are rightful; a repeat tells those newly given last, and asks nothing; every accepted command was sent on the PIN1 in force; Remaining and
+-- Signed_Hashes, wherever they are told, are those of the history; a card that was purged and is not reusable makes neither wallet nor wallet signature again
 pub record OneMore (sh : Sheet) (h : History) (i : Call) (x r : List ℕ) : Type 0 where
   pub signs : signedNew (tap (i .request) r) ≡ true → Rightful sh h i x r
   pub repeats : did 0xFB (tap (i .request) r) ≡ true → isNew (payload (i .request)) ≡ false → (r ≡ signResponse sh (tap (i .request) r ∷ h) (given h)) × (x ≡ [])
@@ -132,13 +134,14 @@ pub record OneMore (sh : Sheet) (h : History) (i : Call) (x r : List ℕ) : Type
   pub signedHashes : accepted r ≡ true → has 0x63 (bodyOf r) ≡ true → val 0x63 (bodyOf r) ≡ be4 (total (tap (i .request) r ∷ h))
   pub ended : sh .flags .reusable ≡ 0 → everPurged h ≡ true → usesWallet (ins (i .request)) ≡ true → (accepted r ≡ false) × (x ≡ [])
 
--- of the card that a history left
+-- THE CARD that a history left: while a wallet lives, Remaining and the SIGNs that made new signatures since its creation make up the maximum; Signed_Hashes is all hashes
+-- newly signed in the card's life, and that fits 32 bits
 pub record Kept (sh : Sheet) (h : History) (c : Card) : Type 0 where
   pub balance : status sh h ≡ 2 → c .face .wallet .remaining + made h ≡ sh .fixed .max
   pub signedHashes : c .face .wallet .signed ≡ total h
   pub fits : total h ≤ 4294967295
 
--- from a fresh card on, after any calls, and of any further call
+-- both, from a fresh card on: after any calls, refused ones included, each given the image that the last one left
 pub record Demand3 (f : AnyCard) : Type 0 where
   pub kept : (sh : Sheet) (m : List ℕ) → Fresh sh m → (is : List Call) → Kept sh (played f m [] is) (decode (left f m is))
   pub next :

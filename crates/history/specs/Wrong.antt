@@ -1,10 +1,11 @@
 -- WRONG CARDS, 01 "How much a promise has to say", and four that a tired engineer might write. proofs/Rejected.antt shows each rejected, by the demand named here. Assumes nothing.
 use Prim.Native.Nat.{ℕ, _+_, _-_}
 use mathlib.Core.List.{List, []}
-use mathlib.Core.Bool.{false, cond, not, _||_}
+use mathlib.Core.Bool.{Bool, false, cond, not, _||_}
 use lib.ListN.{length}
 use lib.Dec.{leb, eqb}
 use Rattle.wire.specs.Wire.{be2}
+use Rattle.fields.specs.Fields.{Tagged}
 use Rattle.card.specs.declared.Wallet.{Wallet}
 use Rattle.card.specs.declared.Face.{Face}
 use Rattle.card.specs.declared.Card.{Card}
@@ -13,6 +14,7 @@ use Rattle.card.specs.Valid.{isCard}
 use Rattle.card.specs.Values.{u32, risen, heldLast, purged, withWallet, withCounters, withLast}
 use Rattle.manual.specs.declared.Command.{Command}
 use Rattle.manual.specs.declared.Command.the-variants.{ReadCard, Sign, PurgeWallet, WriteIssuerData}
+use Rattle.manual.specs.declared.Matched.{Matched}
 use Rattle.manual.specs.declared.Verdict.{Verdict}
 use Rattle.manual.specs.declared.Verdict.the-variants.{Pass, Stop}
 use Rattle.manual.specs.Request.{command, payload}
@@ -92,94 +94,43 @@ forgetter = outside (record { verdict = honest .verdict; asks = honest .asks; sa
 abbrev pub but : Command → Row → Command → Row
 but k r j = cond (eqb (code j) (code k)) r (row j)
 
+-- a row, but for one column
+abbrev pub withConditions : (Matched → Face → List ℕ → Bool) → Row → Row
+withConditions g r = record { needs = r .needs; pin2 = r .pin2; fields = r .fields; conditions = g; questions = r .questions; confirmed = r .confirmed; next = r .next; recode = r .recode; fieldsOut = r .fieldsOut; more = r .more }
+
+abbrev pub withNext : (Face → List ℕ → List ℕ → Face) → Row → Row
+withNext g r = record { needs = r .needs; pin2 = r .pin2; fields = r .fields; conditions = r .conditions; questions = r .questions; confirmed = r .confirmed; next = g; recode = r .recode; fieldsOut = r .fieldsOut; more = r .more }
+
+abbrev pub withFieldsOut : (Face → List ℕ → List ℕ → List ℕ → List Tagged) → Row → Row
+withFieldsOut g r = record { needs = r .needs; pin2 = r .pin2; fields = r .fields; conditions = r .conditions; questions = r .questions; confirmed = r .confirmed; next = r .next; recode = r .recode; fieldsOut = g; more = r .more }
+
 -- 4. HONOURS THE FIRST SIGN AND AFTERWARDS REPEATS ITS SIGNATURES (demands 2 and 3): it asks, and counts, and answers the old ones
 abbrev pub keptLast : Face → Face → Face
 keptLast f g = cond (eqb (f .last .count) 0) g (withLast (f .last) g)
 
-unfoldable pub signOnce : Row
-unfolding sign
-signOnce =
-    record {
-      needs = sign .needs;
-      pin2 = sign .pin2;
-      fields = sign .fields;
-      conditions = sign .conditions;
-      questions = sign .questions;
-      confirmed = sign .confirmed;
-      next = λ f p a. keptLast f (sign .next f p a);
-      recode = sign .recode;
-      fieldsOut = sign .fieldsOut;
-      more = sign .more;
-    }
-
 abbrev pub repeater : AnyCard
-repeater = outside (byRows (but Sign signOnce))
+repeater = outside (byRows (but Sign (withNext (λ f p a. keptLast f (sign .next f p a)) sign)))
 
 -- 5. REPORTS A SIGNED_HASHES OF ITS OWN MAKING (demand 3), all else being right
 abbrev pub boasting : Face → Face
 boasting f = withWallet (record { status = f .wallet .status; number = f .wallet .number; remaining = f .wallet .remaining; signed = 7 }) f
 
-unfoldable pub readProud : Row
-unfolding readCard
-readProud =
-    record {
-      needs = readCard .needs;
-      pin2 = readCard .pin2;
-      fields = readCard .fields;
-      conditions = readCard .conditions;
-      questions = readCard .questions;
-      confirmed = readCard .confirmed;
-      next = readCard .next;
-      recode = readCard .recode;
-      fieldsOut = λ f p d a. readFields (boasting f);
-      more = readCard .more;
-    }
-
 abbrev pub proud : AnyCard
-proud = outside (byRows (but ReadCard readProud))
+proud = outside (byRows (but ReadCard (withFieldsOut (λ f p d a. readFields (boasting f)) readCard)))
 
 -- 6. TAKES A NOTE WHOSE COUNTER IS NOT ABOVE THE STORED ONE (demand 2), as the old practice card did
-unfoldable pub writeAgain : Row
-unfolding writeIssuerData
-writeAgain =
-    record {
-      needs = writeIssuerData .needs;
-      pin2 = writeIssuerData .pin2;
-      fields = writeIssuerData .fields;
-      conditions = λ m f p. not (guarded f) || leb (f .issuer .counter) (sentCounter p);
-      questions = writeIssuerData .questions;
-      confirmed = writeIssuerData .confirmed;
-      next = writeIssuerData .next;
-      recode = writeIssuerData .recode;
-      fieldsOut = writeIssuerData .fieldsOut;
-      more = writeIssuerData .more;
-    }
-
 abbrev pub oldCard : AnyCard
-oldCard = outside (byRows (but WriteIssuerData writeAgain))
+oldCard = outside (byRows (but WriteIssuerData (withConditions (λ m f p. not (guarded f) || leb (f .issuer .counter) (sentCounter p)) writeIssuerData)))
 
 -- 7. TAKES A SIGNATURE OFF REMAINING PER HASH (demand 3)
 abbrev pub spentEach : ℕ → Wallet → Wallet
 spentEach n w = record { status = w .status; number = w .number; remaining = w .remaining - n; signed = u32 (w .signed + n) }
 
-unfoldable pub signEach : Row
-unfolding sign
-signEach =
-    record {
-      needs = sign .needs;
-      pin2 = sign .pin2;
-      fields = sign .fields;
-      conditions = sign .conditions;
-      questions = sign .questions;
-      confirmed = sign .confirmed;
-      next = λ f p a. cond (isNew p) (withLast (heldLast a) (withCounters (risen (f .counters)) (withWallet (spentEach (count p) (f .wallet)) f))) f;
-      recode = sign .recode;
-      fieldsOut = sign .fieldsOut;
-      more = sign .more;
-    }
+abbrev pub signedEach : Face → ℕ → List ℕ → Face
+signedEach f n a = withLast (heldLast a) (withCounters (risen (f .counters)) (withWallet (spentEach n (f .wallet)) f))
 
 abbrev pub greedy : AnyCard
-greedy = outside (byRows (but Sign signEach))
+greedy = outside (byRows (but Sign (withNext (λ f p a. cond (isNew p) (signedEach f (count p) a) f) sign)))
 
 -- 8. STORES THE NEW CODES BEFORE IT LOOKS WHETHER THEY MAY CHANGE (demand 3): a refused SET_PIN is in force
 abbrev pub hastily : Card → List ℕ → Said → Card
@@ -189,21 +140,5 @@ abbrev pub hasty : AnyCard
 hasty = outside (record { verdict = honest .verdict; asks = honest .asks; says = honest .says; leaves = hastily })
 
 -- 9. KEEPS THE PURGED KEY (demand 2)
-unfoldable pub purgeHalf : Row
-unfolding purgeWallet
-purgeHalf =
-    record {
-      needs = purgeWallet .needs;
-      pin2 = purgeWallet .pin2;
-      fields = purgeWallet .fields;
-      conditions = purgeWallet .conditions;
-      questions = purgeWallet .questions;
-      confirmed = purgeWallet .confirmed;
-      next = λ f p a. withWallet (purged (f .flags .reusable) (f .wallet)) f;
-      recode = purgeWallet .recode;
-      fieldsOut = purgeWallet .fieldsOut;
-      more = purgeWallet .more;
-    }
-
 abbrev pub hoarder : AnyCard
-hoarder = outside (byRows (but PurgeWallet purgeHalf))
+hoarder = outside (byRows (but PurgeWallet (withNext (λ f p a. withWallet (purged (f .flags .reusable) (f .wallet)) f) purgeWallet)))
