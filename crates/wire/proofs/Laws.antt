@@ -2,12 +2,14 @@
 use Prim.Native.Nat.{ℕ, zero, suc, _+_, _-_, _≤_, _<_}
 use native.Mathlib.Omega.{arith}
 use native.Mathlib.Numerals.{add-one}
+use native.Mathlib.Decide.{ℕ-discrete}
 use native.Mathlib.Nat.{add-zero}
 use mathlib.Core.Path.{_≡_, refl, sym, ap, ap₂, _∙_, subst}
 use mathlib.Core.List.{List, [], _∷_, _++_, append-assoc, append-nil}
 use mathlib.Core.Bool.{Bool, true, false, cond, _&&_, _||_, not}
 use lib.ListN.{length, take, drop, getD, replicate, length-append, length-take, length-drop, length-replicate, take-append-drop, drop-of-length-le}
 use lib.Seq.{take-at, drop-at, drop-append-add, drop-drop, drop-cons, drop-nil, paste, take-length}
+use lib.Bits.{bitOr, or-add-and, and-le-l, and-le-r, or-zero-l}
 use lib.Dec.{leb, eqb}
 use borrow.Author.Tests.{le-leb, lt-leb, leb-true, leb-false, eq-eqb, ne-eqb}
 use Rattle.wire.specs.declared.Check.{Check}
@@ -211,18 +213,34 @@ pub alike-end : (a b : List ℕ) (i : ℕ) → length a ≤ i → length b ≤ i
 unfolding alike
 alike-end a b i h k = rw (drop-of-length-le a h, drop-of-length-le b k)
 
-module _ (s : List ℕ) (i : ℕ) where
-  pub stop : i < length s → (getD s i 0 ≡ 0 → ⊥) → allZero (drop i s) ≡ false
-  unfolding allZero
-  stop h k = rw (drop-cons s i 0 h, ne-eqb _ _ k)
+-- UNUSED ROOM: what bytes gathered by `or` tell
+or-none : (d z : ℕ) → bitOr d z ≡ 0 → d ≡ 0
+or-none d z e = omega (arith, or-add-and d z, and-le-l d z, and-le-r d z)
 
-  pub go : i < length s → getD s i 0 ≡ 0 → allZero (drop i s) ≡ allZero (drop (i + 1) s)
-  unfolding allZero
-  go h k = rw (add-one, drop-cons s i 0 h, eq-eqb _ _ k)
+or-zero : (d x : ℕ) → eqb (bitOr d x) 0 ≡ eqb d 0 && eqb x 0
+or-zero d x = go (ℕ-discrete d 0) (ℕ-discrete x 0)
+  where
+    go : Dec (d ≡ 0) → Dec (x ≡ 0) → eqb (bitOr d x) 0 ≡ eqb d 0 && eqb x 0
+    go (yes p) (yes q) = rw (p, q)
+    go (yes p) (no q) = rw (p, or-zero-l x, ne-eqb x 0 q)
+    go (no p) _ = rw (ne-eqb (bitOr d x) 0 (λ e. p (or-none d x e)), ne-eqb d 0 p)
 
-  pub end : length s ≤ i → allZero (drop i s) ≡ true
+and-assoc : (a b c : Bool) → (a && b && c) ≡ (a && (b && c))
+and-assoc true b c = refl
+and-assoc false b c = refl
+
+and-one : (a : Bool) → (a && true) ≡ a
+and-one true = refl
+and-one false = refl
+
+module _ (s : List ℕ) (d i : ℕ) where
+  pub gather : i < length s → (eqb d 0 && allZero (drop i s)) ≡ (eqb (bitOr d (getD s i 0)) 0 && allZero (drop (i + 1) s))
   unfolding allZero
-  end h = rw (drop-of-length-le s h)
+  gather h = rw (add-one, drop-cons s i 0 h, or-zero d (getD s i 0)) (sym (and-assoc (eqb d 0) (eqb (getD s i 0) 0) (allZero (drop (suc i) s))))
+
+  pub gathered : length s ≤ i → (eqb d 0 && allZero (drop i s)) ≡ eqb d 0
+  unfolding allZero
+  gathered h = rw (drop-of-length-le s h) (and-one (eqb d 0))
 
 -- a run that fills all of d
 pub filled : {d v d′ : List ℕ} {r : ℕ} → Runs d 0 v d′ r → length v ≡ length d → d′ ≡ v
