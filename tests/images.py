@@ -1,0 +1,74 @@
+"""Makes crates/images/stdin, images for the program `images`, and crates/images/stdout, what it must print.
+
+Run: python3 tests/images.py (about a minute). tests/README.md tells what the lines mean. Every value of every byte is
+tried, so the whole is 4.3 million calls of is_card.
+"""
+
+import multiprocessing
+import pathlib
+
+from twin.bench import fresh, loaded, purged, some
+from twin.card import is_card
+from twin.image import ED25519, IMAGE_LENGTH, encode
+
+PLACE = pathlib.Path(__file__).resolve().parent.parent / "crates" / "images"
+
+CARDS = (
+    fresh(activated=0),
+    fresh(ED25519, user_data=some(5, 1), user_protected_data=some(512, 2)),
+    loaded(last_signatures=some(192, 3), issuer_data=some(512, 4), issuer_data_signature=some(64, 5)),
+    loaded(ED25519, reusable=0),
+    purged(),
+    fresh(wallet_number=7),
+    loaded(remaining=0, last_signatures=some(640, 6)),
+)
+OTHER_LENGTHS = (b"", encode(fresh())[:-1], encode(fresh()) + b"\0")
+
+
+def byte_ranges(values: list) -> str:
+    """Rising byte values as runs: `00-00 41-43`."""
+    starts = [value for value in values if value - 1 not in values]
+    ends = [value for value in values if value + 1 not in values]
+    return " ".join(f"{start:02X}-{end:02X}" for start, end in zip(starts, ends)) or "none"
+
+
+def poked(image: bytes, offset: int, value: int) -> bytes:
+    return image[:offset] + bytes([value]) + image[offset + 1 :]
+
+
+def tried(image: bytes) -> list:
+    """For each offset, the byte values with which the image is a card."""
+    return [byte_ranges([value for value in range(256) if is_card(poked(image, offset, value))])
+            for offset in range(len(image))]
+
+
+def merged(rows: list) -> list:
+    """One line for each run of offsets with the same ranges."""
+    lines, first = [], 0
+    for offset, ranges in enumerate(rows):
+        if offset + 1 == len(rows) or rows[offset + 1] != ranges:
+            lines.append((f"{first}" if first == offset else f"{first}-{offset}") + "\t" + ranges)
+            first = offset + 1
+    return lines
+
+
+def report(image: bytes) -> str:
+    if len(image) != IMAGE_LENGTH:
+        return f"{len(image)}\tno\n"
+    return "\n".join(merged(tried(image))) + "\n--\n"
+
+
+def main():
+    images = [encode(card) for card in CARDS]
+    assert all(map(is_card, images))
+    images += OTHER_LENGTHS
+    with multiprocessing.Pool(2) as pool:
+        reports = pool.map(report, images, chunksize=1)
+    PLACE.mkdir(parents=True, exist_ok=True)
+    (PLACE / "stdin").write_text("".join(image.hex().upper() + "\n" for image in images), newline="\n")
+    (PLACE / "stdout").write_text("".join(reports), newline="\n")
+    print(f"{len(images)} images, {sum(text.count(chr(10)) for text in reports)} lines")
+
+
+if __name__ == "__main__":
+    main()
