@@ -1,0 +1,176 @@
+// What taps prints, a line at a time, tests/README.md "The lines of taps".
+use card::IMAGE_SIZE;
+use libc::STDOUT_FILENO;
+use manual::Outcome;
+use text::lines;
+
+// Every byte of a buffer before it is lent.
+pub const FILL: u8 = 0xAA;
+
+fn say(s: &[u8]) {
+    io::write_all(STDOUT_FILENO, s);
+}
+
+// A line as it is.
+pub fn same(line: &[u8]) {
+    let mut out = [0u8; 8200];
+    let n = wire::put_bytes(&mut out, 0, line);
+    let e = wire::put8(&mut out, n, lines::LINE_FEED);
+    say(wire::part(&out, 0, e));
+}
+
+fn put_tab(out: &mut [u8], at: usize) -> usize {
+    wire::put8(out, at, lines::TAB)
+}
+
+fn put_word(out: &mut [u8], at: usize, x: u16) -> usize {
+    let two = [(x / 256) as u8, (x % 256) as u8];
+    text::put_hex(out, at, &two)
+}
+
+fn put_byte(out: &mut [u8], at: usize, x: u8) -> usize {
+    let one = [x];
+    text::put_hex(out, at, &one)
+}
+
+// A tab, and then a number, or bytes.
+fn put_number(out: &mut [u8], at: usize, n: u32) -> usize {
+    let a = put_tab(out, at);
+    text::put_decimal(out, a, n)
+}
+
+fn put_bytes(out: &mut [u8], at: usize, v: &[u8]) -> usize {
+    let a = put_tab(out, at);
+    text::put_hex(out, a, v)
+}
+
+fn put_outcome(out: &mut [u8], letter: u8, o: Outcome) -> usize {
+    let a = wire::put8(out, 0, letter);
+    let b = put_number(out, a, wire::wide(o.number));
+    let c = put_tab(out, b);
+    let d = put_word(out, c, o.word);
+    put_number(out, d, o.length)
+}
+
+// How many bytes of the questions or the response, and of the next image, are written.
+fn written(o: Outcome) -> usize {
+    if o.number == 0 {
+        return o.length as usize;
+    }
+    0
+}
+
+fn image_written(o: Outcome) -> usize {
+    if o.number == 0 {
+        return IMAGE_SIZE;
+    }
+    0
+}
+
+// Whether what lies from `at` on is as it was lent.
+fn untouched(s: &[u8], at: usize) -> bool {
+    let mut i = at;
+    while i < s.len() {
+        if s[i] != FILL {
+            return false;
+        }
+        i += 1;
+    }
+    true
+}
+
+fn put_end(out: &mut [u8], at: usize, clean: bool) -> usize {
+    if clean {
+        return wire::put8(out, at, lines::LINE_FEED);
+    }
+    wire::put_bytes(out, at, b"\nT\n")
+}
+
+// Ends the line, and writes it.
+fn finish(out: &mut [u8], at: usize, clean: bool) {
+    let e = put_end(out, at, clean);
+    say(wire::part(out, 0, e));
+}
+
+pub fn asked(o: Outcome, questions: &[u8]) {
+    let mut out = [0u8; 16384];
+    let n = written(o);
+    let a = put_outcome(&mut out, b'A', o);
+    let b = put_bytes(&mut out, a, wire::part(questions, 0, n));
+    finish(&mut out, b, untouched(questions, n));
+}
+
+fn differs(old: &[u8], new: &[u8], i: u16) -> bool {
+    let j = i as u32;
+    wire::unless(wire::get8(old, j) == wire::get8(new, j))
+}
+
+fn starts(old: &[u8], new: &[u8], i: u16) -> bool {
+    if i == 0 {
+        return true;
+    }
+    wire::unless(differs(old, new, i - 1))
+}
+
+// A blank between two runs; `from` is the place of the first one.
+fn put_gap(out: &mut [u8], from: usize, at: usize) -> usize {
+    if at == from {
+        return at;
+    }
+    wire::put8(out, at, b' ')
+}
+
+fn put_place(out: &mut [u8], from: usize, at: usize, i: u16) -> usize {
+    let a = put_gap(out, from, at);
+    let b = put_word(out, a, i);
+    wire::put8(out, b, b':')
+}
+
+fn put_start(out: &mut [u8], from: usize, at: usize, old: &[u8], new: &[u8], i: u16) -> usize {
+    if starts(old, new, i) {
+        return put_place(out, from, at, i);
+    }
+    at
+}
+
+fn put_change(out: &mut [u8], from: usize, at: usize, old: &[u8], new: &[u8], i: u16) -> usize {
+    if differs(old, new, i) {
+        let a = put_start(out, from, at, old, new, i);
+        return put_byte(out, a, wire::get8(new, i as u32));
+    }
+    at
+}
+
+// The runs of places where two images differ, each with its place and the new bytes.
+fn put_changes(out: &mut [u8], from: usize, old: &[u8], new: &[u8]) -> usize {
+    let mut at = from;
+    let mut i: u16 = 0;
+    while i < 2429 {
+        at = put_change(out, from, at, old, new, i);
+        i += 1;
+    }
+    at
+}
+
+fn put_next(out: &mut [u8], at: usize, o: Outcome, old: &[u8], next: &[u8]) -> usize {
+    let a = put_tab(out, at);
+    if o.number == 0 {
+        return put_changes(out, a, old, next);
+    }
+    a
+}
+
+fn clean(o: Outcome, response: &[u8], next: &[u8]) -> bool {
+    wire::both(
+        untouched(response, written(o)),
+        untouched(next, image_written(o)),
+    )
+}
+
+pub fn settled(o: Outcome, old: &[u8], response: &[u8], next: &[u8]) {
+    let mut out = [0u8; 16384];
+    let a = put_outcome(&mut out, b'S', o);
+    let b = put_bytes(&mut out, a, wire::part(response, 0, written(o)));
+    let c = put_next(&mut out, b, o, old, next);
+    finish(&mut out, c, clean(o, response, next));
+}
