@@ -1,0 +1,27 @@
+/* One tap: ask, answer, settle. */
+#ifndef EXCHANGE_H
+#define EXCHANGE_H
+
+#include <stddef.h>
+#include <stdint.h>
+
+#include "complaint.h"
+#include "practice.h"
+#include "provider.h"
+
+typedef struct {
+    uint8_t answers[PROVIDER_ROOM];
+    size_t answers_len;
+    uint8_t response[PRACTICE_ROOM];
+    size_t response_len;
+    uint8_t next[PRACTICE_IMAGE_ROOM]; /* practice_image_length() bytes of it are the card after the tap */
+} exchange;
+
+/* Taps an image with a request under a draw, the provider's keys coming from the seed.
+ *
+ * A complaint means that there was no tap: the image is no card, or the provider could not answer. A refusal by a status word is a
+ * response like any other. */
+complaint exchange_tap(const uint8_t *image, size_t image_len, const uint8_t *request, size_t request_len,
+                       const uint8_t draw[PRACTICE_DRAW], const uint8_t *seed, size_t seed_len, exchange *tap);
+
+#endif

@@ -1,0 +1,58 @@
+/* Hex, and the one line that a complaint is: what every part of the host uses. */
+#include "hex.h"
+
+#include <ctype.h>
+#include <stdarg.h>
+#include <string.h>
+
+complaint complain(const char *format, ...)
+{
+    static char line[512];
+    char made[sizeof line]; /* an argument may be the line of an earlier complaint */
+    va_list arguments;
+    va_start(arguments, format);
+    vsnprintf(made, sizeof made, format, arguments);
+    va_end(arguments);
+    memcpy(line, made, sizeof line);
+    return line;
+}
+
+static int digit(char c)
+{
+    if (c >= '0' && c <= '9')
+        return c - '0';
+    c = (char)toupper((unsigned char)c);
+    return c >= 'A' && c <= 'F' ? c - 'A' + 10 : -1;
+}
+
+complaint hex_read(const char *text, uint8_t *bytes, size_t room, size_t *length)
+{
+    size_t count = 0;
+    for (const char *at = text; *at;) {
+        if (*at == ' ') {
+            at++;
+            continue;
+        }
+        if (digit(at[0]) < 0)
+            return complain("'%c' is no hex digit", at[0]);
+        if (digit(at[1]) < 0)
+            return complain("hex digits come in pairs");
+        if (count == room)
+            return complain("more than %zu bytes", room);
+        bytes[count++] = (uint8_t)(digit(at[0]) << 4 | digit(at[1]));
+        at += 2;
+    }
+    *length = count;
+    return NULL;
+}
+
+int hex_looks(const char *text)
+{
+    return strspn(text, "0123456789abcdefABCDEF ") == strlen(text) && strpbrk(text, "0123456789abcdefABCDEF") != NULL;
+}
+
+void hex_print(FILE *out, const uint8_t *bytes, size_t length)
+{
+    for (size_t at = 0; at < length; at++)
+        fprintf(out, "%02X", bytes[at]);
+}

@@ -1,0 +1,29 @@
+/* Taps one after the other: `tap send` and `tap record`. */
+#ifndef SENDING_H
+#define SENDING_H
+
+#include <stddef.h>
+
+#include "complaint.h"
+
+typedef struct {
+    const char *seed; /* NULL: the practice seed's keys, and draws by chance */
+    const char *pin1, *pin2, *cvc;
+    int hex_only; /* print the response alone */
+} settings;
+
+/* The seed that keys come from where none is given. */
+#define PRACTICE_SEED "practice"
+
+/* A recording's limits (Ask 4 of the paper on changes). */
+#define RECORDING_LINE 8192
+#define RECORDING_TAPS 10000
+
+/* Sends each request to the card file, and prints each response. With no argument the requests are the lines of standard input. */
+complaint send_requests(const settings *set, const char *card, size_t count, char **arguments);
+
+/* From a sheet: a whole recording, of the sheet and of each tap on the fresh card, in a file that was not there.
+ * From a card file: each request is sent to it, and its tap's line is put at the end of the file. */
+complaint record_requests(const settings *set, const char *from, const char *file, size_t count, char **arguments);
+
+#endif

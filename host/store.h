@@ -1,0 +1,36 @@
+/* The card file: exactly the image, replaced whole or not at all.
+ *
+ * A new image is written to FILE.new beside it, brought to the disk, and given the card's name in one step; a lost power or a killed
+ * process leaves the card as it was before the tap or as it is after it. FILE.lock is held meanwhile, so that no second process taps
+ * the same card between reading and replacing. Both names stay beside the card; what they hold does not matter. */
+#ifndef STORE_H
+#define STORE_H
+
+#include <stddef.h>
+#include <stdint.h>
+
+#include "complaint.h"
+
+typedef struct {
+    char *path; /* without symbolic links, so that one card has one lock */
+    int lock;
+} store;
+
+/* Waits a few seconds for the lock. After a complaint nothing is held. */
+complaint store_open(store *card, const char *path);
+void store_close(store *card);
+
+/* Reads the file, which may be no card: image_is_card tells. */
+complaint store_read(const store *card, uint8_t *image, size_t room, size_t *length);
+complaint store_replace(const store *card, const uint8_t *image, size_t length);
+
+/* A card file where there was none. */
+complaint store_create(const char *path, const uint8_t *image, size_t length);
+
+/* Another file, as a recording, where there was none: whole or not at all, too. */
+complaint store_write_file(const char *path, const uint8_t *bytes, size_t length);
+
+/* The whole of a file. */
+complaint store_read_file(const char *path, uint8_t *bytes, size_t room, size_t *length);
+
+#endif
