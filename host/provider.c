@@ -131,29 +131,11 @@ provider_result provider_public_key(const uint8_t *seed, size_t seed_len, const 
 
 /* ---- signatures ---- */
 
-/* RFC 6979 takes the hash modulo the group's order before it makes the nonce. Not every release of libsecp256k1 does, and a hash of a
- * SIGN is whatever the host sends: so it is done here, and every release gives the same bytes. */
-static void reduce(uint8_t hash[32])
-{
-    static const uint8_t order[32] = {0xFF, 0xFF, 0xFF, 0xFF, 0xFF, 0xFF, 0xFF, 0xFF, 0xFF, 0xFF, 0xFF, 0xFF, 0xFF, 0xFF, 0xFF, 0xFE,
-                                      0xBA, 0xAE, 0xDC, 0xE6, 0xAF, 0x48, 0xA0, 0x3B, 0xBF, 0xD2, 0x5E, 0x8C, 0xD0, 0x36, 0x41, 0x41};
-    if (memcmp(hash, order, 32) < 0)
-        return;
-    int borrow = 0;
-    for (int at = 31; at >= 0; at--) {
-        int difference = hash[at] - order[at] - borrow;
-        borrow = difference < 0;
-        hash[at] = (uint8_t)difference;
-    }
-}
-
+/* libsecp256k1's own way: the nonce of RFC 6979, the low S. */
 static provider_result sign_on_secp256k1(const uint8_t *secret, const uint8_t hash[32], uint8_t *signature)
 {
-    uint8_t reduced[32];
     secp256k1_ecdsa_signature made;
-    memcpy(reduced, hash, 32);
-    reduce(reduced);
-    if (!secp256k1_ecdsa_sign(secp256k1(), &made, reduced, secret, NULL, NULL))
+    if (!secp256k1_ecdsa_sign(secp256k1(), &made, hash, secret, NULL, NULL))
         return PROVIDER_FAILED;
     secp256k1_ecdsa_signature_serialize_compact(secp256k1(), signature, &made);
     return PROVIDER_DONE;

@@ -33,10 +33,10 @@ typedef struct {
     exchange got;
 } tap;
 
-/* Where the tap's line goes: the end of a file, or a stream; nowhere where both are NULL. */
+/* Where lines go: a stream, which is the end of a file where file is not NULL. Nowhere where both are. */
 typedef struct {
     const char *file;
-    FILE *stream;
+    FILE *stream; /* of a file: opened for its first line */
 } recorder;
 
 static const char *seed_of(const settings *set)
@@ -83,28 +83,29 @@ static void print_line(FILE *out, const tap *t)
     fputc('\n', out);
 }
 
-static complaint line_fits(const desk *d, const tap *t)
+/* Whether the tap's line can be written. This is found out before the card is changed. */
+static complaint ready(recorder *to, const desk *d, const tap *t)
 {
     size_t length = 2 * (t->sent.length + sizeof t->draw + t->got.answers_len + t->got.response_len) + 3;
+    if (!to->file && !to->stream)
+        return NULL;
     if (length > RECORDING_LINE)
         return complain("the line of tap %u would have %zu bytes; a recording's have at most %d", d->number, length, RECORDING_LINE);
     if (d->number > RECORDING_TAPS)
         return complain("a recording has at most %d taps", RECORDING_TAPS);
+    if (!to->stream && !(to->stream = fopen(to->file, "a")))
+        return complain("%s: cannot be written", to->file);
     return NULL;
 }
 
 static complaint write_line(const recorder *to, const tap *t)
 {
-    if (to->stream)
-        print_line(to->stream, t);
-    if (!to->file)
+    if (!to->stream)
         return NULL;
-    FILE *out = fopen(to->file, "a");
-    if (!out)
+    print_line(to->stream, t);
+    if (to->file && (fflush(to->stream) != 0 || fsync(fileno(to->stream)) != 0))
         return complain("%s: cannot be written", to->file);
-    print_line(out, t);
-    int written = fflush(out) == 0 && fsync(fileno(out)) == 0;
-    return fclose(out) == 0 && written ? NULL : complain("%s: cannot be written", to->file);
+    return NULL;
 }
 
 /* ---- one tap ---- */
@@ -146,20 +147,20 @@ static complaint keep(desk *d, const store *card, const tap *t)
 }
 
 /* The tap of a card whose image is in memory, and in its file where card is not NULL. */
-static complaint tap_once(desk *d, const store *card, size_t count, char *const *words, const recorder *to, tap *t)
+static complaint tap_once(desk *d, const store *card, size_t count, char *const *words, recorder *to, tap *t)
 {
     complaint wrong = make_request(d, count, words, t);
     if (!wrong)
         wrong = tap_image(d, t);
-    if (!wrong && (to->file || to->stream))
-        wrong = line_fits(d, t);
+    if (!wrong)
+        wrong = ready(to, d, t);
     if (!wrong)
         wrong = keep(d, card, t);
     return wrong ? wrong : write_line(to, t);
 }
 
 /* The lock is held from reading to replacing, and let go before the next request: standard input may take its time. */
-static complaint tap_file(desk *d, size_t count, char *const *words, const recorder *to, tap *t)
+static complaint tap_file(desk *d, size_t count, char *const *words, recorder *to, tap *t)
 {
     store card;
     complaint wrong = store_open(&card, d->path);
@@ -191,7 +192,7 @@ static complaint at_line(const feed *from, complaint wrong)
     return wrong && from->lines ? complain("line %u of standard input: %s", from->line, wrong) : wrong;
 }
 
-static complaint tap_all(desk *d, feed *from, const recorder *to)
+static complaint tap_all(desk *d, feed *from, recorder *to)
 {
     static tap t;
     size_t count;
@@ -232,7 +233,7 @@ complaint send_requests(const settings *set, const char *card, size_t count, cha
 {
     static feed from;
     static desk d;
-    const recorder nowhere = {NULL, NULL};
+    recorder nowhere = {NULL, NULL};
     d.set = set;
     d.path = card;
     open_feed(&from, count, arguments);
@@ -260,11 +261,15 @@ static complaint count_taps(const char *file, uint32_t *taps)
 
 static complaint record_card(desk *d, const char *file, feed *from)
 {
-    const recorder to = {file, NULL};
+    recorder to = {file, NULL};
     complaint wrong = look_at(d);
     if (!wrong)
         wrong = count_taps(file, &d->number);
-    return wrong ? wrong : tap_all(d, from, &to);
+    if (!wrong)
+        wrong = tap_all(d, from, &to);
+    if (to.stream && fclose(to.stream) != 0 && !wrong)
+        wrong = complain("%s: cannot be written", file);
+    return wrong;
 }
 
 static complaint record_sheet(desk *d, const uint8_t *sheet, size_t sheet_len, const char *file, feed *from)
@@ -273,7 +278,7 @@ static complaint record_sheet(desk *d, const uint8_t *sheet, size_t sheet_len, c
     size_t length = 0;
     if (access(file, F_OK) == 0)
         return complain("%s: exists already, and is left as it is", file);
-    const recorder to = {NULL, open_memstream(&text, &length)};
+    recorder to = {NULL, open_memstream(&text, &length)};
     if (!to.stream)
         return complain("no memory");
     fwrite(sheet, 1, sheet_len, to.stream);
