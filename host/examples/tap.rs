@@ -4,7 +4,7 @@ use std::io::Read;
 #[repr(C)]
 struct Outcome {
     number: u8,
-    reason: u8,
+    _reason: u8,
     word: u16,
     length: u32,
 }
@@ -77,5 +77,5 @@ fn main() {
     let key: Vec<u8> = std::iter::once(0x04).chain((1..65).map(|n| n as u8)).collect();
     let (done, response, next) = settle(&image, &request, &key);
     println!("settled  {} {:04X} {}", done.number, done.word, hex(&response));
-    println!("reason   {} {}, card {}", asked.reason, done.reason, if next == image { "as it was" } else { "changed" });
+    println!("the card is {}", ["Empty", "Loaded", "Purged"][next[87] as usize - 1]);
 }
