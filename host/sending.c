@@ -110,18 +110,29 @@ static complaint write_line(const recorder *to, const tap *t)
 
 /* ---- one tap ---- */
 
-static void show(const settings *set, const tap *t)
+static void show_hex(char mark, const uint8_t *bytes, size_t length)
 {
-    if (!set->hex_only) {
-        printf("%s\n> ", words_command(t->sent.bytes, t->sent.length));
-        hex_print(stdout, t->sent.bytes, t->sent.length);
-        printf("\n< ");
-    }
-    hex_print(stdout, t->got.response, t->got.response_len);
+    printf("%c ", mark);
+    hex_print(stdout, bytes, length);
     putchar('\n');
-    if (!set->hex_only) {
-        words_response(stdout, t->sent.bytes, t->sent.length, t->got.response, t->got.response_len);
+}
+
+static void show_words(const tap *t)
+{
+    puts(words_command(t->sent.bytes, t->sent.length));
+    show_hex('>', t->sent.bytes, t->sent.length);
+    show_hex('<', t->got.response, t->got.response_len);
+    words_response(stdout, t->sent.bytes, t->sent.length, t->got.response, t->got.response_len);
+}
+
+static void show(const settings *set, int first, const tap *t)
+{
+    if (set->hex_only) {
+        hex_print(stdout, t->got.response, t->got.response_len);
         putchar('\n');
+    } else {
+        fputs(first ? "" : "\n", stdout);
+        show_words(t);
     }
     fflush(stdout);
 }
@@ -198,11 +209,11 @@ static complaint tap_all(desk *d, feed *from, recorder *to)
     size_t count;
     char **words;
     complaint wrong = from->lines ? NULL : all_can_be_made(*d, *from);
-    while (!wrong && !(wrong = feed_next(from, &count, &words)) && count > 0) {
+    for (int first = 1; !wrong && !(wrong = feed_next(from, &count, &words)) && count > 0; first = 0) {
         d->number++;
         wrong = d->path ? tap_file(d, count, words, to, &t) : tap_once(d, NULL, count, words, to, &t);
         if (!wrong)
-            show(d->set, &t);
+            show(d->set, first, &t);
     }
     return at_line(from, wrong);
 }
