@@ -13,6 +13,9 @@ complaint complain(const char *format, ...)
     va_start(arguments, format);
     vsnprintf(made, sizeof made, format, arguments);
     va_end(arguments);
+    for (char *at = made; *at; at++) /* an operand may hold a line feed, and one line is promised */
+        if (iscntrl((unsigned char)*at))
+            *at = '?';
     memcpy(line, made, sizeof line);
     return line;
 }

@@ -12,6 +12,27 @@
 #define MANY 1000
 #define TOP_32 0xFFFFFFFF
 
+enum {
+    TAG_CID = 0x01,
+    TAG_PIN1 = 0x10,
+    TAG_PIN2 = 0x11,
+    TAG_NEW_PIN1 = 0x12,
+    TAG_NEW_PIN2 = 0x13,
+    TAG_PUBLIC_KEY_CHALLENGE = 0x14,
+    TAG_CHALLENGE = 0x16,
+    TAG_CVC = 0x19,
+    TAG_USER_DATA = 0x2A,
+    TAG_USER_PROTECTED_DATA = 0x2B,
+    TAG_USER_COUNTER = 0x2C,
+    TAG_USER_PROTECTED_COUNTER = 0x2D,
+    TAG_ISSUER_DATA = 0x32,
+    TAG_ISSUER_DATA_SIGNATURE = 0x33,
+    TAG_ISSUER_DATA_COUNTER = 0x35,
+    TAG_HASH_ARRAY = 0x50,
+    TAG_HASH_SIZE = 0x51
+};
+
+/* What goes into a request beside PIN1. */
 enum { NONE = 0, CID = 1, PIN2 = 2, CVC = 4 };
 
 /* The payload under way. A field that does not fit is left out and makes it too long for good. */
@@ -32,7 +53,7 @@ typedef struct {
     const char *word, *operands, *meaning;
     size_t least, most;
     uint8_t ins;
-    int codes; /* what goes in beside PIN1 */
+    int codes;
     complaint (*own_fields)(const order *);
 } row;
 
@@ -78,15 +99,15 @@ static complaint put_code(const request_source *from, payload *out, uint8_t tag,
 
 static complaint put_codes(const request_source *from, int codes, payload *out)
 {
-    complaint wrong = put_code(from, out, 0x10, from->pin1, IMAGE_PIN1);
+    complaint wrong = put_code(from, out, TAG_PIN1, from->pin1, IMAGE_PIN1);
     if (codes & CID)
-        put_image_value(out, 0x01, from->image, IMAGE_CID);
+        put_image_value(out, TAG_CID, from->image, IMAGE_CID);
     if (!wrong && codes & PIN2)
-        wrong = put_code(from, out, 0x11, from->pin2, IMAGE_PIN2);
+        wrong = put_code(from, out, TAG_PIN2, from->pin2, IMAGE_PIN2);
     if (codes & CVC && from->cvc)
-        put_field(out, 0x19, (const uint8_t *)from->cvc, strlen(from->cvc));
+        put_field(out, TAG_CVC, (const uint8_t *)from->cvc, strlen(from->cvc));
     else if (codes & CVC && image_number(from->image, IMAGE_CVC_USED))
-        put_image_value(out, 0x19, from->image, IMAGE_CVC);
+        put_image_value(out, TAG_CVC, from->image, IMAGE_CVC);
     return wrong;
 }
 
@@ -122,19 +143,19 @@ static complaint put_challenge(const order *o, size_t operand, uint8_t tag)
 
 static complaint own_challenge(const order *o)
 {
-    return put_challenge(o, 0, 0x16);
+    return put_challenge(o, 0, TAG_CHALLENGE);
 }
 
 static complaint own_check(const order *o)
 {
     complaint wrong = own_challenge(o);
-    return !wrong && o->count == 2 ? put_challenge(o, 1, 0x14) : wrong;
+    return !wrong && o->count == 2 ? put_challenge(o, 1, TAG_PUBLIC_KEY_CHALLENGE) : wrong;
 }
 
 static complaint own_new_pins(const order *o)
 {
-    complaint wrong = put_pin(o->out, 0x12, o->operand[0]);
-    return wrong ? wrong : put_pin(o->out, 0x13, o->operand[1]);
+    complaint wrong = put_pin(o->out, TAG_NEW_PIN1, o->operand[0]);
+    return wrong ? wrong : put_pin(o->out, TAG_NEW_PIN2, o->operand[1]);
 }
 
 static complaint hash_operand(const order *o, size_t operand, uint8_t hash[32])
@@ -162,8 +183,8 @@ static complaint put_hashes(const order *o, complaint (*hash_of)(const order *, 
         if (wrong)
             return wrong;
     }
-    put_field(o->out, 0x51, &size, 1);
-    put_field(o->out, 0x50, hashes, o->count * size);
+    put_field(o->out, TAG_HASH_SIZE, &size, 1);
+    put_field(o->out, TAG_HASH_ARRAY, hashes, o->count * size);
     return NULL;
 }
 
@@ -191,12 +212,12 @@ static complaint put_user(const order *o, uint8_t data_tag, uint8_t counter_tag)
 
 static complaint own_user(const order *o)
 {
-    return put_user(o, 0x2A, 0x2C);
+    return put_user(o, TAG_USER_DATA, TAG_USER_COUNTER);
 }
 
 static complaint own_protected(const order *o)
 {
-    return put_user(o, 0x2B, 0x2D);
+    return put_user(o, TAG_USER_PROTECTED_DATA, TAG_USER_PROTECTED_COUNTER);
 }
 
 /* The counter of a note: as given, or the one after the card's. Only a card with replay protection reads one. */
@@ -229,10 +250,10 @@ static complaint own_note(const order *o)
     memcpy(message + PROVIDER_CID + length, counter, counter_len);
     if (provider_issue(o->from->seed, o->from->seed_len, cid, message, PROVIDER_CID + length + counter_len, signature) != PROVIDER_DONE)
         return complain("the issuer could not sign");
-    put_field(o->out, 0x32, (const uint8_t *)text, length);
-    put_field(o->out, 0x33, signature, sizeof signature);
+    put_field(o->out, TAG_ISSUER_DATA, (const uint8_t *)text, length);
+    put_field(o->out, TAG_ISSUER_DATA_SIGNATURE, signature, sizeof signature);
     if (counter_len)
-        put_field(o->out, 0x35, counter, counter_len);
+        put_field(o->out, TAG_ISSUER_DATA_COUNTER, counter, counter_len);
     return NULL;
 }
 
