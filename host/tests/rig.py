@@ -17,7 +17,7 @@ failures = 0
 def check(name: str, holds, why: str = "") -> bool:
     global failures
     failures += not holds
-    print(f"ok {name}" if holds else f"FAIL {name}: {why}", flush=True)
+    print(f"ok {name}" if holds else f"FAIL {name}: {why[:600]}", flush=True)
     return bool(holds)
 
 
