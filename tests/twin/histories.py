@@ -1,0 +1,82 @@
+"""Taps by chance, in histories: each tap on the image that the last one left."""
+
+from typing import NamedTuple
+
+from twin.chance import Chance, any_card
+from twin.chance_requests import any_request
+from twin.image import IMAGE_LENGTH, Card, decode, encode
+from twin.pair import ROOMS, Pair
+from twin.request import number
+
+TAPS_IN_A_JOB = 2000
+
+
+def answers_by_chance(chance: Chance, questions: bytes) -> bytes:
+    """Answers that fit the questions, kind 5 mostly yes, and a few that do not fit."""
+    given = []
+    while questions:
+        kind, curve, length = questions[0], questions[3], number(questions[4:6])
+        given.append({1: chance.public_key(curve), 5: bytes([chance.flag(0.8)])}.get(kind) or chance.randbytes(64))
+        questions = questions[6 + length :]
+    return wrong_answers(chance, b"".join(given)) if chance.often(0.08) else b"".join(given)
+
+
+def wrong_answers(chance: Chance, answers: bytes) -> bytes:
+    """Too short, too long, or with another first byte, which may fit after all."""
+    cut = answers[: chance.randrange(len(answers) + 1)]
+    return chance.choice((cut, answers[:-1], answers + chance.randbytes(chance.choice((1, 64))),
+                          bytes([chance.choice((0, 2, 3, 5, 255))]) + answers[1:]))
+
+
+class Lent(NamedTuple):
+    """What a tap is lent beside the request: mostly enough of everything."""
+
+    image: bytes
+    draw: bytes
+    rooms: tuple
+
+
+def lent_by_chance(chance: Chance, image: bytes) -> Lent:
+    draw, rooms = chance.randbytes(32), tuple(room + chance.choice((0, 0, 1, 300)) for room in ROOMS)
+    if chance.often(0.97):
+        return Lent(image, draw, rooms)
+    wrong = [chance.often(0.6) for _ in range(3)]
+    return Lent(
+        damaged_image(chance, image) if wrong[0] else image,
+        chance.randbytes(chance.choice((0, 16, 31, 33, 64, chance.randrange(64)))) if wrong[1] else draw,
+        tuple(chance.choice((room, room - 1, chance.randrange(room))) for room in ROOMS) if wrong[2] else rooms,
+    )
+
+
+def damaged_image(chance: Chance, image: bytes) -> bytes:
+    """One byte another, mostly among the values before the data, or another length."""
+    if chance.often(0.1):
+        return chance.choice((image[:-1], image + b"\0", b"", image[: chance.randrange(IMAGE_LENGTH)]))
+    at = chance.randrange(75, 180) if chance.often(0.6) else chance.randrange(IMAGE_LENGTH)
+    return image[:at] + bytes([chance.choice((0, 1, 2, 3, 255, chance.randrange(256)))]) + image[at + 1 :]
+
+
+def tap(pair: Pair, card: Card, image: bytes) -> bytes:
+    """Both calls on one request. Returns the image that the card is left with."""
+    chance = pair.chance
+    request, lent = any_request(chance, card), lent_by_chance(chance, image)
+    asked = pair.ask(lent.image, request, lent.draw, lent.rooms[0])
+    if asked.reason:
+        answers = chance.randbytes(chance.choice((0, 0, 1, 64, 65, 700)))
+    else:
+        answers = answers_by_chance(chance, asked.questions)
+    settled = pair.settle(lent.image, request, lent.draw, answers, *lent.rooms[1:])
+    if settled.image is None:
+        return image
+    pair.reached.tapped(request, settled.reason, decode(lent.image), decode(settled.image))
+    return settled.image
+
+
+def histories(pair: Pair):
+    """Cards by chance, each tapped some dozens of times, every tap on the image that the last one left."""
+    left = TAPS_IN_A_JOB
+    while left:
+        image = encode(any_card(pair.chance))
+        for _ in range(min(left, pair.chance.randint(10, 60))):
+            image = tap(pair, decode(image), image)
+            left -= 1

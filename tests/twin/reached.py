@@ -1,0 +1,224 @@
+"""What the taps by chance have to reach, and the tables that show how often they did."""
+
+from collections import Counter
+from typing import Callable, NamedTuple
+
+from twin.bench import (
+    CHECK_WALLET, CREATE_WALLET, CURVES, NAMES, PURGE_WALLET, READ_CARD, READ_ISSUER_DATA, READ_USER_DATA, SET_PIN, SIGN,
+    STATUSES, VALIDATE_CARD, VERIFY_CARD, WRITE_ISSUER_DATA, WRITE_USER_DATA,
+)
+from twin.image import EMPTY, LOADED, PURGED, TOP_16, TOP_32, Card
+
+CHECKS = range(1, 14)
+NUMBERS = {"ask": range(4), "settle": range(5)}
+WORDS = (0x9000, 0x9001, 0x9002, 0x9003, 0x6286, 0x6700, 0x6982, 0x6985, 0x6A86, 0x6D00, 0x6E00)
+NOT_ACTIVATED = 0
+STATES = {NOT_ACTIVATED: "not activated", **STATUSES}
+
+# The rows of a request whose second byte is no command, and of one that has no second byte.
+OTHER, NONE = "other INS", "no INS"
+
+HEAD = {1, 2, 4, 5, 6}
+REFUSED_BY = {
+    READ_CARD: HEAD,
+    CREATE_WALLET: HEAD | {7, 8, 9, 10, 12},
+    CHECK_WALLET: HEAD | {7, 8, 9, 11},
+    SET_PIN: HEAD | {7, 8, 9, 10, 11, 12},
+    SIGN: HEAD | {7, 8, 9, 10, 11, 12},
+    VERIFY_CARD: HEAD | {7, 8, 11},
+    VALIDATE_CARD: HEAD | {7, 8, 9, 10, 12},
+    PURGE_WALLET: HEAD | {7, 8, 9, 10, 12},
+    READ_USER_DATA: HEAD | {7, 8},
+    WRITE_USER_DATA: HEAD | {7, 8, 9, 10, 11},
+    WRITE_ISSUER_DATA: HEAD | {7, 8, 9, 11, 12, 13},
+    READ_ISSUER_DATA: HEAD | {7, 11},
+    OTHER: {1, 2, 3},
+    NONE: {1},
+}
+DONE_IN = {
+    NOT_ACTIVATED: {READ_CARD, READ_ISSUER_DATA},
+    EMPTY: set(NAMES) - {CHECK_WALLET, SIGN, PURGE_WALLET},
+    LOADED: set(NAMES) - {CREATE_WALLET},
+    PURGED: {READ_CARD, VERIFY_CARD, READ_USER_DATA, READ_ISSUER_DATA},
+}
+
+
+# ---------------------------------------------------------------- counters at their ends
+
+
+class End(NamedTuple):
+    """A place that a command comes to, done (0) or refused by a check: seen where the test holds."""
+
+    name: str
+    ins: int
+    reason: int
+    test: Callable[[Card, Card, bytes], bool]
+
+
+ENDS = (
+    End("Check_Wallet_Counter rises to its top", CHECK_WALLET, 0, lambda old, new, _: old.check_wallet_counter == TOP_32 - 1),
+    End("Check_Wallet_Counter stays at its top", CHECK_WALLET, 0, lambda old, new, _: old.check_wallet_counter == TOP_32),
+    End("Card_Validation_Counter rises to 65,535", VALIDATE_CARD, 0, lambda old, new, _: new.card_validation_counter == TOP_16),
+    End("refused with Card_Validation_Counter 65,535", VALIDATE_CARD, 12, lambda old, new, _: True),
+    End("wallet number 65,535 begins", CREATE_WALLET, 0, lambda old, new, _: new.wallet_number == TOP_16),
+    End("refused after wallet 65,535", CREATE_WALLET, 12, lambda old, new, _: True),
+    End("Max_Signatures 4,294,967,295 becomes Remaining", CREATE_WALLET, 0, lambda old, new, _: new.remaining == TOP_32),
+    End("Max_Signatures 1 becomes Remaining", CREATE_WALLET, 0, lambda old, new, _: new.remaining == 1),
+    End("Remaining falls to 0", SIGN, 0, lambda old, new, _: old.remaining == 1 and new.remaining == 0),
+    End("SIGN refused with Remaining 0", SIGN, 12,
+        lambda old, new, _: old.remaining == 0 and old.last_signatures != b"" and old.signed_hashes <= TOP_32 - 10),
+    End("Signed_Hashes rises to its top", SIGN, 0, lambda old, new, _: old.signed_hashes < new.signed_hashes == TOP_32),
+    End("SIGN refused above Signed_Hashes' top", SIGN, 12,
+        lambda old, new, _: old.remaining > 0 and old.last_signatures != b""),
+    End("User_Counter goes to 0", SIGN, 0, lambda old, new, _: old.user_counter == TOP_32 and new.user_counter == 0),
+    End("User_ProtectedCounter goes to 0", SIGN, 0,
+        lambda old, new, _: old.user_protected_counter == TOP_32 and new.user_protected_counter == 0),
+    End("one hash signed", SIGN, 0, lambda old, new, _: old.remaining > new.remaining and len(new.last_signatures) == 64),
+    End("ten hashes signed", SIGN, 0, lambda old, new, _: old.remaining > new.remaining and len(new.last_signatures) == 640),
+    End("the repeat", SIGN, 0, lambda old, new, _: old == new),
+    End("the repeat with Remaining 0", SIGN, 0, lambda old, new, _: old == new and old.remaining == 0),
+    End("the repeat refused without signatures", SIGN, 12,
+        lambda old, new, _: old.remaining > 0 and old.signed_hashes <= TOP_32 - 10),
+    End("issuer counter stored at its top", WRITE_ISSUER_DATA, 0,
+        lambda old, new, _: old.issuer_data_counter < new.issuer_data_counter == TOP_32),
+    End("refused with the issuer counter at its top", WRITE_ISSUER_DATA, 12,
+        lambda old, new, _: old.issuer_data_counter == TOP_32),
+    End("512 bytes of issuer data stored", WRITE_ISSUER_DATA, 0, lambda old, new, _: len(new.issuer_data) == 512),
+    End("512 bytes of user data stored", WRITE_USER_DATA, 0, lambda old, new, _: len(new.user_data) == 512 > len(old.user_data)),
+    End("512 bytes of protected data stored", WRITE_USER_DATA, 0,
+        lambda old, new, _: len(new.user_protected_data) == 512 > len(old.user_protected_data)),
+    End("user counter stored at its top", WRITE_USER_DATA, 0,
+        lambda old, new, _: old.user_counter < new.user_counter == TOP_32),
+    End("protected counter stored at its top", WRITE_USER_DATA, 0,
+        lambda old, new, _: old.user_protected_counter < new.user_protected_counter == TOP_32),
+    End("purged, reusable", PURGE_WALLET, 0, lambda old, new, _: new.status == EMPTY),
+    End("purged, not reusable", PURGE_WALLET, 0, lambda old, new, _: new.status == PURGED),
+    *(End(f"{NAMES[ins]} done by a request of 1,024 bytes", ins, 0, lambda old, new, request: len(request) == 1024)
+      for ins in (READ_CARD, SIGN, WRITE_USER_DATA, WRITE_ISSUER_DATA)),
+    *(End(f"{NAMES[ins]} refused at 1,025 bytes", ins, 1, lambda old, new, request: len(request) == 1025)
+      for ins in (READ_CARD, SIGN, WRITE_USER_DATA, WRITE_ISSUER_DATA)),
+)
+
+
+# ---------------------------------------------------------------- counting
+
+
+def row_of(request: bytes):
+    if len(request) < 2:
+        return NONE
+    return request[1] if request[1] in NAMES else OTHER
+
+
+class Reached:
+    """How often each thing was reached. Sums of two are made by `update` of `times`."""
+
+    def __init__(self):
+        self.times = Counter()
+
+    def number(self, call: str, number: int):
+        self.times["number", call, number] += 1
+
+    def settled(self, request: bytes, settled):
+        """Every call of settle, whatever it came to."""
+        row = row_of(request)
+        self.number("settle", settled.number)
+        if settled.number:
+            self.times["number of", row, settled.number] += 1
+            return
+        self.times["word", settled.word] += 1
+        self.times["reason", row, settled.reason] += 1
+
+    def tapped(self, request: bytes, reason: int, before: Card, after: Card):
+        """A tap on a card, done or refused."""
+        row = row_of(request)
+        if reason == 0:
+            state = before.status if before.activated else NOT_ACTIVATED
+            self.times["done in", row, state, before.curve] += 1
+        for end in ENDS_OF.get((row, reason), ()):
+            self.times["end", end.name] += end.test(before, after, request)
+
+
+ENDS_OF = {}
+for one in ENDS:
+    ENDS_OF.setdefault((one.ins, one.reason), []).append(one)
+
+
+# ---------------------------------------------------------------- tables
+
+
+def table(head: list, rows: list) -> str:
+    widths = [max(len(row[at]) for row in [head] + rows) for at in range(len(head))]
+    lines = [[cell.ljust(width) if at == 0 else cell.rjust(width) for at, (cell, width) in enumerate(zip(row, widths))]
+             for row in [head] + rows]
+    return "\n".join("  ".join(line).rstrip() for line in lines)
+
+
+def cell(times: Counter, key: tuple, possible: bool) -> str:
+    """A count, or a dot where nothing is to be counted."""
+    return str(times[key]) if possible or times[key] else "."
+
+
+def name_of(row) -> str:
+    return NAMES.get(row, row)
+
+
+def by_check(times: Counter) -> str:
+    """Commands against what settle came to: done, the check that refused, the number."""
+    head = ["", "done", *(f"chk {check}" for check in CHECKS), *(f"no. {number}" for number in range(1, 5))]
+    rows = [[name_of(row), cell(times, ("reason", row, 0), row in NAMES),
+             *(cell(times, ("reason", row, check), check in refusals) for check in CHECKS),
+             *(cell(times, ("number of", row, number), number < 4 or row in NAMES) for number in range(1, 5))]
+            for row, refusals in REFUSED_BY.items()]
+    return table(head, rows)
+
+
+def by_state(times: Counter) -> str:
+    """Commands against where they were done: status and curve."""
+    head = ["done on a card that is", *(f"{state} {curve}" for state in STATES.values() for curve in CURVES.values())]
+    rows = [[name, *(cell(times, ("done in", ins, state, curve), ins in DONE_IN[state]) for state in STATES for curve in CURVES)]
+            for ins, name in NAMES.items()]
+    return table(head, rows)
+
+
+def by_word(times: Counter) -> str:
+    head = ["status word", *(f"{word:04X}" for word in WORDS)]
+    return table(head, [["times", *(str(times["word", word]) for word in WORDS)]])
+
+
+def by_end(times: Counter) -> str:
+    return table(["end of a range", "times"], [[end.name, str(times["end", end.name])] for end in ENDS])
+
+
+def tables(times: Counter) -> str:
+    return "\n\n".join((by_check(times), by_state(times), by_word(times), by_end(times)))
+
+
+# ---------------------------------------------------------------- what was to be reached
+
+
+def wanted() -> dict:
+    """What has to be reached, by key, in words."""
+    keys = {}
+    for row, refusals in REFUSED_BY.items():
+        keys |= {("reason", row, check): f"{name_of(row)} refused by check {check}" for check in refusals}
+    for ins, name in NAMES.items():
+        keys["reason", ins, 0] = f"{name} done"
+        keys |= {("number of", ins, number): f"{name} with number {number}" for number in range(1, 5)}
+    for state, commands in DONE_IN.items():
+        keys |= {("done in", ins, state, curve): f"{NAMES[ins]} done, {STATES[state]}, {CURVES[curve]}"
+                 for ins in commands for curve in CURVES}
+    keys |= {("word", word): f"status word {word:04X}" for word in WORDS}
+    keys |= {("number", call, number): f"{call}'s number {number}" for call, numbers in NUMBERS.items() for number in numbers}
+    keys |= {("end", end.name): end.name for end in ENDS}
+    return keys
+
+
+def never(times: Counter) -> list:
+    """What was to be reached and was not."""
+    return [words for key, words in wanted().items() if not times[key]]
+
+
+def beyond(times: Counter) -> list:
+    """What was reached and cannot be, by the tables above."""
+    known = set(wanted()) | {("number of", row, number) for row in (OTHER, NONE) for number in range(1, 5)}
+    return [str(key) for key in times if times[key] and key not in known]
