@@ -1,0 +1,386 @@
+/* What host/bench counts: each call of the library, and what stands beside it, once on the same bytes.
+ *
+ *   bench            calls everything once between marks for callgrind, which counts inside the functions named to it
+ *   bench list       the names of what can be called, with the length of the request
+ *   bench NAME N     calls that N times, for a counter that only sees whole runs: two runs give the cost of one call
+ *
+ * Two cards are tapped, both Loaded. One holds no data and no signatures, the other as much as a card can hold. They are made through
+ * the library's own calls, with answers of no meaning: what a signature is does not matter here. */
+#include <stdio.h>
+#include <stdlib.h>
+#include <string.h>
+
+#include "practice.h"
+
+#if __has_include(<valgrind/callgrind.h>)
+#include <valgrind/callgrind.h>
+#else
+#define CALLGRIND_DUMP_STATS_AT(name) (void)(name)
+#endif
+
+#define COUNTED __attribute__((noinline))
+#define REQUEST_ROOM 1024
+#define CODE 32
+#define DATA 512
+#define HASH 32
+#define SIGNATURE 64
+#define MOST_HASHES 10
+
+enum { PIN1 = 0x10, CID = 0x01, PIN2 = 0x11, DATA_OPEN = 0x2A, DATA_PROTECTED = 0x2B, ISSUER_DATA = 0x32 };
+enum { ISSUER_SIGNATURE = 0x33, ISSUER_COUNTER = 0x35, HASHES = 0x50, HASH_SIZE = 0x51 };
+
+typedef struct {
+    uint8_t bytes[REQUEST_ROOM];
+    size_t length;
+} request;
+
+typedef struct {
+    const char *card, *name;
+    const uint8_t *image;
+    request sent;
+    uint8_t answers[MOST_HASHES * SIGNATURE];
+    size_t answers_len;
+    unsigned word; /* that settle gives */
+} tap_case;
+
+static uint8_t empty[PRACTICE_IMAGE_ROOM], signed_once[PRACTICE_IMAGE_ROOM], full[PRACTICE_IMAGE_ROOM];
+static uint8_t draw[PRACTICE_DRAW], code[CODE], data[DATA], cid[8] = {0xAA, 0, 0, 0, 0, 1, 0x66, 0x75};
+static uint8_t questions[PRACTICE_ROOM], response[PRACTICE_ROOM], next[PRACTICE_IMAGE_ROOM];
+static tap_case cases[32];
+static size_t case_count;
+
+static void stop(const char *why)
+{
+    fprintf(stderr, "bench: %s\n", why);
+    exit(1);
+}
+
+/* ---- requests ---- */
+
+static void begin(request *r, uint8_t ins)
+{
+    const uint8_t head[] = {0, ins, 0, 0, 0, 0, 0};
+    memcpy(r->bytes, head, sizeof head);
+    r->length = sizeof head;
+}
+
+static void field(request *r, uint8_t tag, const uint8_t *value, size_t length)
+{
+    const uint8_t brief[] = {tag, (uint8_t)length}, extended[] = {tag, 0xFF, (uint8_t)(length >> 8), (uint8_t)length};
+    size_t head = length < 255 ? sizeof brief : sizeof extended;
+    if (r->length + head + length > sizeof r->bytes)
+        stop("a request is too long");
+    memcpy(r->bytes + r->length, length < 255 ? brief : extended, head);
+    memcpy(r->bytes + r->length + head, value, length);
+    r->length += head + length;
+}
+
+/* Lc in one byte where it fits. */
+static void finish(request *r)
+{
+    size_t payload = r->length - 7;
+    r->bytes[5] = (uint8_t)(payload >> 8);
+    r->bytes[6] = (uint8_t)payload;
+    if (payload < 256) {
+        memmove(r->bytes + 5, r->bytes + 7, payload);
+        r->bytes[4] = (uint8_t)payload;
+        r->length -= 2;
+    }
+}
+
+/* PIN1 and CID, then PIN2 where the command needs it. The two codes are the same on these cards. */
+static void access_fields(request *r, int pin2)
+{
+    field(r, PIN1, code, sizeof code);
+    field(r, CID, cid, sizeof cid);
+    if (pin2)
+        field(r, PIN2, code, sizeof code);
+}
+
+static void make_plain(request *r, uint8_t ins, int pin2)
+{
+    begin(r, ins);
+    access_fields(r, pin2);
+    finish(r);
+}
+
+static void make_sign(request *r, size_t hashes)
+{
+    const uint8_t size = HASH;
+    begin(r, 0xFB);
+    access_fields(r, 1);
+    field(r, HASHES, data, hashes * HASH);
+    field(r, HASH_SIZE, &size, 1);
+    finish(r);
+}
+
+static void make_write(request *r, uint8_t ins, uint8_t tag)
+{
+    begin(r, ins);
+    access_fields(r, ins == 0xE0);
+    field(r, tag, data, DATA);
+    finish(r);
+}
+
+static void make_issuer_write(request *r, uint8_t counter)
+{
+    const uint8_t sent[4] = {0, 0, 0, counter};
+    begin(r, 0xF6);
+    access_fields(r, 0);
+    field(r, ISSUER_DATA, data, DATA);
+    field(r, ISSUER_SIGNATURE, data, SIGNATURE);
+    field(r, ISSUER_COUNTER, sent, sizeof sent);
+    finish(r);
+}
+
+/* ---- cards ---- */
+
+static const char sheet[] =
+    "cid\tAA00000000016675\n"
+    "pin1\t1111111111111111111111111111111111111111111111111111111111111111\n"
+    "pin2\t1111111111111111111111111111111111111111111111111111111111111111\n"
+    "cvc\t123\ncurve\tsecp256k1\nmax\t1000000\nreusable\t1\nusecvc\t0\nsetpin1\t1\nsetpin2\t1\nnopurge\t1\nreplay\t1\nactive\t1\n";
+
+static void tap(uint8_t image[PRACTICE_IMAGE_ROOM], const request *r, const uint8_t *answers, size_t answers_len)
+{
+    practice_result done = practice_settle(image, practice_image_length(), r->bytes, r->length, draw, sizeof draw, answers, answers_len,
+                                           response, sizeof response, next, sizeof next);
+    if (done.number != 0 || done.word != 0x9000)
+        stop("a card could not be made");
+    memcpy(image, next, practice_image_length());
+}
+
+static void make_cards(void)
+{
+    const uint8_t key[65] = {4}, yes = 1;
+    request r;
+    if (practice_personalise((const uint8_t *)sheet, sizeof sheet - 1, empty, sizeof empty) != 0)
+        stop("the sheet is bad");
+    make_plain(&r, 0xF8, 1);
+    tap(empty, &r, key, sizeof key);
+    memcpy(signed_once, empty, sizeof empty);
+    make_sign(&r, 1);
+    tap(signed_once, &r, data, SIGNATURE);
+    memcpy(full, empty, sizeof empty);
+    make_write(&r, 0xE0, DATA_OPEN);
+    tap(full, &r, data, 0);
+    make_write(&r, 0xE0, DATA_PROTECTED);
+    tap(full, &r, data, 0);
+    make_issuer_write(&r, 1);
+    tap(full, &r, &yes, 1);
+    make_sign(&r, MOST_HASHES);
+    uint8_t signatures[MOST_HASHES * SIGNATURE];
+    memset(signatures, 0x5A, sizeof signatures);
+    tap(full, &r, signatures, sizeof signatures);
+}
+
+/* ---- cases ---- */
+
+static tap_case *new_case(const char *card, const uint8_t *image, const char *name, size_t answers_len, unsigned word)
+{
+    tap_case *c = &cases[case_count++];
+    c->card = card;
+    c->image = image;
+    c->name = name;
+    memset(c->answers, 1, sizeof c->answers);
+    c->answers_len = answers_len;
+    c->word = word;
+    return c;
+}
+
+static void make_cases(const char *card, const uint8_t *image, const uint8_t *with_signatures)
+{
+    make_plain(&new_case(card, image, "READ_CARD", 0, 0x9000)->sent, 0xF2, 0);
+    make_sign(&new_case(card, image, "SIGN, 1 hash", SIGNATURE, 0x9000)->sent, 1);
+    make_sign(&new_case(card, image, "SIGN, 10 hashes", MOST_HASHES * SIGNATURE, 0x9000)->sent, MOST_HASHES);
+    make_plain(&new_case(card, with_signatures, "SIGN, the repeat", 0, 0x9000)->sent, 0xFB, 1);
+    make_issuer_write(&new_case(card, image, "WRITE_ISSUER_DATA, 512 bytes", 1, 0x9000)->sent, 2);
+    request *refused = &new_case(card, image, "refused by check 1", 0, 0x6700)->sent;
+    make_plain(refused, 0xF2, 0);
+    refused->length--;
+    refused = &new_case(card, image, "refused by check 6", 0, 0x6A86)->sent;
+    make_plain(refused, 0xF2, 0);
+    refused->bytes[7 + CODE - 1] ^= 1;
+    make_plain(&new_case(card, image, "refused by check 12", 0, 0x6985)->sent, 0xFC, 1);
+}
+
+static void check_cases(void)
+{
+    for (size_t at = 0; at < case_count; at++) {
+        const tap_case *c = &cases[at];
+        practice_result done =
+            practice_settle(c->image, practice_image_length(), c->sent.bytes, c->sent.length, draw, sizeof draw, c->answers,
+                            c->answers_len, response, sizeof response, next, sizeof next);
+        if (done.number != 0 || done.word != c->word)
+            stop(c->name);
+    }
+}
+
+/* ---- what is counted ---- */
+
+static volatile unsigned kept; /* so that no call is left out */
+
+static void count_ask(const tap_case *c)
+{
+    kept = practice_ask(c->image, practice_image_length(), c->sent.bytes, c->sent.length, draw, sizeof draw, questions,
+                        sizeof questions).word;
+}
+
+static void count_settle(const tap_case *c)
+{
+    kept = practice_settle(c->image, practice_image_length(), c->sent.bytes, c->sent.length, draw, sizeof draw, c->answers,
+                           c->answers_len, response, sizeof response, next, sizeof next).word;
+}
+
+/* The copy that a host itself makes of an image: by the C library, and byte by byte as it is written here, left so by the compiler. */
+COUNTED void copy_library(uint8_t *to, const uint8_t *from, size_t length)
+{
+    memcpy(to, from, length);
+}
+
+COUNTED __attribute__((optimize("no-tree-loop-distribute-patterns", "no-tree-vectorize"))) void
+copy_bytes(uint8_t *restrict to, const uint8_t *restrict from, size_t length)
+{
+    for (size_t at = 0; at < length; at++)
+        to[at] = from[at];
+}
+
+static void count_copy_library(const tap_case *c)
+{
+    copy_library(next, c->image, practice_image_length());
+}
+
+static void count_copy_bytes(const tap_case *c)
+{
+    copy_bytes(next, c->image, practice_image_length());
+}
+
+#ifdef OPENSC
+/* OpenSC's reader of one field. Its two-byte lengths are little-endian, so the payload it gets has them exchanged. */
+int sc_simpletlv_read_tag(const uint8_t **at, size_t left, uint8_t *tag, size_t *length);
+
+typedef struct {
+    const uint8_t *value;
+    size_t length;
+} found;
+
+#define WANTED 9
+
+/* To the payload's end, with the first value of each tag that one of the commands above reads. */
+COUNTED int walk(const uint8_t *payload, size_t length, found wanted[WANTED])
+{
+    static const uint8_t places[256] = {[PIN1] = 1,      [CID] = 2,         [PIN2] = 3,             [HASHES] = 4,
+                                        [HASH_SIZE] = 5, [ISSUER_DATA] = 6, [ISSUER_SIGNATURE] = 7, [ISSUER_COUNTER] = 8};
+    const uint8_t *at = payload, *end = payload + length;
+    while (at < end) {
+        uint8_t tag;
+        size_t size;
+        if (sc_simpletlv_read_tag(&at, (size_t)(end - at), &tag, &size) != 0)
+            return 0;
+        found *place = &wanted[places[tag]];
+        if (places[tag] && !place->value) {
+            place->value = at;
+            place->length = size;
+        }
+        at += size;
+    }
+    return 1;
+}
+
+static void exchange_lengths(request *r, size_t start)
+{
+    for (size_t at = start; at < r->length;) {
+        int is_long = r->bytes[at + 1] == 0xFF;
+        size_t size = is_long ? (size_t)r->bytes[at + 2] << 8 | r->bytes[at + 3] : r->bytes[at + 1];
+        if (is_long) {
+            uint8_t first = r->bytes[at + 2];
+            r->bytes[at + 2] = r->bytes[at + 3];
+            r->bytes[at + 3] = first;
+        }
+        at += size + (is_long ? 4 : 2);
+    }
+}
+
+static void count_walk(const tap_case *c)
+{
+    static request r;
+    found wanted[WANTED] = {0};
+    size_t start = c->sent.bytes[4] ? 5 : 7;
+    r = c->sent;
+    if (c->word != 0x6700)
+        exchange_lengths(&r, start);
+    kept = (unsigned)walk(r.bytes + start, r.length - start, wanted);
+}
+#endif
+
+static const struct {
+    const char *name;
+    void (*call)(const tap_case *);
+} counts[] = {
+    {"ask", count_ask},
+    {"settle", count_settle},
+    {"copy, C library", count_copy_library},
+    {"copy, byte by byte", count_copy_bytes},
+#ifdef OPENSC
+    {"walk", count_walk},
+#endif
+};
+
+#define COUNTS (sizeof counts / sizeof *counts)
+
+static const char *full_name(size_t one, const tap_case *c)
+{
+    static char name[128];
+    snprintf(name, sizeof name, "%s/%s/%s", c->card, c->name, counts[one].name);
+    return name;
+}
+
+/* The first call is for the dynamic linker, which then has found what is called. */
+static void count_all(void)
+{
+    for (size_t at = 0; at < case_count; at++)
+        for (size_t one = 0; one < COUNTS; one++) {
+            counts[one].call(&cases[at]);
+            CALLGRIND_DUMP_STATS_AT("first call");
+            counts[one].call(&cases[at]);
+            CALLGRIND_DUMP_STATS_AT(full_name(one, &cases[at]));
+        }
+}
+
+static void list(void)
+{
+    for (size_t at = 0; at < case_count; at++)
+        for (size_t one = 0; one < COUNTS; one++)
+            printf("%s\t%zu\n", full_name(one, &cases[at]), cases[at].sent.length);
+}
+
+static void call_times(const char *name, unsigned long times)
+{
+    for (size_t at = 0; at < case_count; at++)
+        for (size_t one = 0; one < COUNTS; one++)
+            if (strcmp(name, full_name(one, &cases[at])) == 0) {
+                while (times-- > 0)
+                    counts[one].call(&cases[at]);
+                return;
+            }
+    stop("no such name");
+}
+
+int main(int count, char **arguments)
+{
+    memset(code, 0x11, sizeof code);
+    memset(data, 0xA5, sizeof data);
+    make_cards();
+    make_cases("empty", empty, signed_once);
+    make_cases("full", full, full);
+    check_cases();
+    if (count == 1)
+        count_all();
+    else if (count == 2 && strcmp(arguments[1], "list") == 0)
+        list();
+    else if (count == 3)
+        call_times(arguments[1], strtoul(arguments[2], NULL, 10));
+    else
+        stop("takes nothing, 'list', or NAME N");
+    return 0;
+}
