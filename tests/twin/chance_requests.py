@@ -241,16 +241,20 @@ def no_own_field(chance: Chance, draft: Draft, card: Card):
     draft.fields = [one for one in draft.fields if one[0] in CODES]
 
 
-def eleven_hashes(chance: Chance, draft: Draft, card: Card):
-    """The hash array one too long, empty, or not a whole number of hashes; on other commands an unknown field."""
-    for at in reversed(draft.places(Tag.HASH_ARRAY)):
-        del draft.fields[at]
-    draft.add(Tag.HASH_ARRAY, chance.randbytes(chance.choice((0, 1, 31, 33, 319, 321, 352))))
+def odd_hashes(chance: Chance, draft: Draft, card: Card):
+    """The hash array and its size absent, empty, or of other lengths; to commands other than SIGN unknown fields."""
+    draft.fields = [one for one in draft.fields if one[0] not in (Tag.HASH_ARRAY, Tag.HASH_SIZE)]
+    array = chance.choice((None, 0, 0, 1, 31, 32, 33, 64, 319, 320, 321, 352))
+    size = chance.choice((None, None, b"", b"\x20", b"\x20", b"\x21", b"\0\x20", b"\x20\0"))
+    if array is not None:
+        draft.add(Tag.HASH_ARRAY, chance.randbytes(array))
+    if size is not None:
+        draft.add(Tag.HASH_SIZE, size)
 
 
 DAMAGES = (
     other_class, other_command, other_parameters, other_parameters, half_field, one_wrong_field, one_own_field,
-    one_own_field, one_own_field, no_own_field, eleven_hashes,
+    one_own_field, one_own_field, no_own_field, odd_hashes, odd_hashes,
     wrong_tag(Tag.PIN1), wrong_tag(Tag.CID), wrong_tag(Tag.PIN2), wrong_tag(Tag.CVC), wrong_tag(Tag.PIN2, Tag.CVC),
     wrong_tag(Tag.MODE, Tag.PUBLIC_KEY_CHALLENGE, Tag.USER_DATA),
 )

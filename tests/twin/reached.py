@@ -8,6 +8,7 @@ from twin.bench import (
     STATUSES, VALIDATE_CARD, VERIFY_CARD, WRITE_ISSUER_DATA, WRITE_USER_DATA,
 )
 from twin.image import EMPTY, LOADED, PURGED, TOP_16, TOP_32, Card
+from twin.request import fields_of, payload_of
 
 CHECKS = range(1, 14)
 NUMBERS = {"ask": range(4), "settle": range(5)}
@@ -43,7 +44,7 @@ DONE_IN = {
 }
 
 
-# ---------------------------------------------------------------- counters at their ends
+# ---------------------------------------------------------------- ends of ranges
 
 
 class End(NamedTuple):
@@ -53,6 +54,11 @@ class End(NamedTuple):
     ins: int
     reason: int
     test: Callable[[Card, Card, bytes], bool]
+
+
+def sent(request: bytes) -> dict:
+    """The fields of a request that is well-formed."""
+    return fields_of(payload_of(request))
 
 
 ENDS = (
@@ -79,6 +85,12 @@ ENDS = (
     End("the repeat with Remaining 0", SIGN, 0, lambda old, new, _: old == new and old.remaining == 0),
     End("the repeat refused without signatures", SIGN, 12,
         lambda old, new, _: old.remaining > 0 and old.signed_hashes <= TOP_32 - 10),
+    End("SIGN refused over an empty array with a size", SIGN, 11, lambda old, new, request: sent(request).get(0x50) == b""
+        and sent(request).get(0x51) == b"\x20"),
+    End("SIGN refused over an empty array without a size", SIGN, 11, lambda old, new, request: sent(request).get(0x50) == b""
+        and 0x51 not in sent(request)),
+    End("SIGN refused over eleven hashes", SIGN, 11, lambda old, new, request: len(sent(request).get(0x50, b"")) == 352
+        and sent(request).get(0x51) == b"\x20"),
     End("issuer counter stored at its top", WRITE_ISSUER_DATA, 0,
         lambda old, new, _: old.issuer_data_counter < new.issuer_data_counter == TOP_32),
     End("refused with the issuer counter at its top", WRITE_ISSUER_DATA, 12,
