@@ -13,8 +13,8 @@
 #include <time.h>
 #include <unistd.h>
 
-#define TRIES 50
-#define PAUSE_MS 100
+#define TRIES 1000
+#define PAUSE_MS 10
 
 static complaint because(const char *what)
 {
@@ -31,7 +31,7 @@ static char *beside(const char *path, const char *ending)
 
 /* ---- the lock ---- */
 
-/* Another process may be in the middle of its tap, which takes milliseconds: so a few seconds are waited before giving up. */
+/* Another process may be in the middle of its tap, which takes milliseconds: so some seconds are waited before giving up. */
 static int lock_in_time(int lock)
 {
     const struct timespec pause = {0, PAUSE_MS * 1000000L};

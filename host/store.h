@@ -16,7 +16,7 @@ typedef struct {
     int lock;
 } store;
 
-/* Waits a few seconds for the lock. After a complaint nothing is held. */
+/* Waits up to ten seconds for the lock. After a complaint nothing is held. */
 complaint store_open(store *card, const char *path);
 void store_close(store *card);
 
