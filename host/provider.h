@@ -27,7 +27,8 @@ typedef enum { PROVIDER_WALLET, PROVIDER_CARD, PROVIDER_ISSUER } provider_owner;
 
 /* Answers questions, kinds 1 to 5, one after the other.
  *
- * in:   the seed (any bytes: the same seed, CID and wallet number make the same keys), the card's CID, the questions that practice_ask wrote
+ * in:   the seed (any bytes: the same seed, CID and wallet number make the same keys), the card's CID, the questions that
+ *       practice_ask wrote
  * out:  answers, and in answers_len how many bytes they take; with no question that is 0.
  *       Unless PROVIDER_DONE is returned, answers_len is 0 and the content of answers means nothing. */
 provider_result provider_answer(const uint8_t *seed, size_t seed_len, const uint8_t cid[PROVIDER_CID], const uint8_t *questions,

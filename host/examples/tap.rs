@@ -63,6 +63,12 @@ fn create_wallet(image: &[u8]) -> Vec<u8> {
     request
 }
 
+/// A key made up: 65 bytes starting 04 on secp256k1, 32 on ed25519. The fourth byte of a question is its curve.
+fn made_up_key(question: &[u8]) -> Vec<u8> {
+    let numbers = 1..=64;
+    if question[3] == 1 { std::iter::once(4).chain(numbers).collect() } else { numbers.take(32).collect() }
+}
+
 fn hex(bytes: &[u8]) -> String {
     bytes.iter().map(|byte| format!("{byte:02X}")).collect()
 }
@@ -74,8 +80,7 @@ fn main() {
     let request = create_wallet(&image);
     let (asked, questions) = ask(&image, &request);
     println!("asked    {} {:04X} {}", asked.number, asked.word, hex(&questions));
-    let key: Vec<u8> = std::iter::once(0x04).chain((1..65).map(|n| n as u8)).collect();
-    let (done, response, next) = settle(&image, &request, &key);
+    let (done, response, next) = settle(&image, &request, &made_up_key(&questions));
     println!("settled  {} {:04X} {}", done.number, done.word, hex(&response));
     println!("the card is {}", ["Empty", "Loaded", "Purged"][next[87] as usize - 1]);
 }
