@@ -199,7 +199,7 @@ def wrong_value(chance: Chance, draft: Draft, places: list):
         return
     at = chance.choice(places)
     tag, value = draft.fields[at]
-    kind = chance.randrange(7)
+    kind = chance.randrange(8)
     if kind == 0:
         del draft.fields[at]
     elif kind == 1:
@@ -214,8 +214,10 @@ def other_value(chance: Chance, value: bytes, kind: int) -> bytes:
     if kind == 3:
         return value[:-1]
     if kind == 4:
-        return value + chance.randbytes(1)
+        return value + chance.choice((b"\0", chance.randbytes(1)))
     if kind == 5:
+        return b"\0" + value
+    if kind == 6:
         return chance.choice((b"", b"\0", b"\1"))
     return chance.randbytes(chance.choice((2, 3, 4, 5, 15, 16, 17, 31, 32, 33, 63, 64, 65, 320, 352, DATA_ROOM, 513)))
 
@@ -241,13 +243,19 @@ def no_own_field(chance: Chance, draft: Draft, card: Card):
     draft.fields = [one for one in draft.fields if one[0] in CODES]
 
 
+# Lengths of the hash array with the hash size, each possibly absent, that no SIGN takes.
+ODD_HASHES = (
+    (0, None), (0, b"\x20"), (None, b"\x20"), (32, None), (32, b""), (32, b"\x21"), (32, b"\0\x20"), (1, b"\x20"), (31, b"\x20"),
+    (33, b"\x20"), (319, b"\x20"), (321, b"\x20"), (352, b"\x20"), (352, b"\x20"),
+)
+
+
 def odd_hashes(chance: Chance, draft: Draft, card: Card):
-    """The hash array and its size absent, empty, or of other lengths; to commands other than SIGN unknown fields."""
+    """To commands other than SIGN these are unknown fields."""
     draft.fields = [one for one in draft.fields if one[0] not in (Tag.HASH_ARRAY, Tag.HASH_SIZE)]
-    array = chance.choice((None, 0, 0, 1, 31, 32, 33, 64, 319, 320, 321, 352))
-    size = chance.choice((None, None, b"", b"\x20", b"\x20", b"\x21", b"\0\x20", b"\x20\0"))
-    if array is not None:
-        draft.add(Tag.HASH_ARRAY, chance.randbytes(array))
+    length, size = chance.choice(ODD_HASHES)
+    if length is not None:
+        draft.add(Tag.HASH_ARRAY, chance.randbytes(length))
     if size is not None:
         draft.add(Tag.HASH_SIZE, size)
 
