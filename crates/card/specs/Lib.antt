@@ -1,3 +1,4 @@
-pub mod Values
 pub mod Image
+pub mod Shape
 pub mod Valid
+pub mod Values

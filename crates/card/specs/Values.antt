@@ -1,8 +1,8 @@
 -- What becomes of a card's values, 01 "What the card is made of" and "The commands". Total: a number is kept in its width, and the conditions of
 -- the commands see to it that nothing is lost. Assumes nothing.
 use Prim.Native.Nat.{ℕ, _+_, _-_, _*_, _/_, _%_}
-use mathlib.Core.Bool.{Bool, cond}
-use mathlib.Core.List.{List, []}
+use mathlib.Core.Bool.{cond}
+use mathlib.Core.List.{List}
 use lib.ListN.{length, replicate}
 use lib.Dec.{eqb, ltb}
 use Rattle.wire.specs.Wire.{part, pad}
@@ -16,6 +16,7 @@ use Rattle.card.specs.declared.Block.{Block}
 use Rattle.card.specs.declared.Issuer.{Issuer}
 use Rattle.card.specs.declared.Last.{Last}
 use Rattle.card.specs.declared.Face.{Face}
+use Rattle.card.specs.declared.Front.{Front}
 use Rattle.card.specs.declared.Card.{Card}
 
 -- kept in one, two or four bytes
@@ -103,6 +104,28 @@ fresh x g k =
       face = record { fixed = x; flags = g; wallet = noWallet; key = noKey; counters = noCounters; user = noBlock; protected = noBlock; issuer = noIssuer; last = noLast };
       codes = k;
     }
+
+-- THE FRONT of a face: all but the data and the last signatures; and the face with that front and nothing held
+abbrev pub front : Face → Front
+front f = record { fixed = f .fixed; flags = f .flags; wallet = f .wallet; key = f .key; counters = f .counters; issuer = f .issuer .counter; last = f .last .count }
+
+abbrev pub bare : Front → Face
+bare x =
+    record {
+      fixed = x .fixed;
+      flags = x .flags;
+      wallet = x .wallet;
+      key = x .key;
+      counters = x .counters;
+      user = noBlock;
+      protected = noBlock;
+      issuer = record { block = noBlock; signature = replicate 64 0; counter = x .issuer };
+      last = record { count = x .last; signatures = replicate 640 0 };
+    }
+
+-- a card with another face
+abbrev pub faced : Face → Card → Card
+faced f c = record { face = f; codes = c .codes }
 
 -- THE FACE with one group anew
 abbrev pub withWallet : Wallet → Face → Face

@@ -2,9 +2,9 @@
 // counters and status as one small value, which create, sign and purge take and hand back.
 ghost use mathlib.Core.Path.{_≡_};
 ghost use mathlib.Core.Bool.{cond};
-ghost use lib.Dec.{eqb, ltb};
+ghost use lib.Dec.{ltb};
 ghost use Prim.Native.Nat.{_+_, _-_};
-ghost use Rattle.card.specs.Values.{created, spent, purged, afterPurge, risen, checkedOnce, validatedOnce, heldKey, heldLast, heldBlock, heldIssuer, fresh, withWallet, withKey, withCounters, withUser, withProtected, withIssuer, withLast};
+ghost use Rattle.card.specs.Values.{created, spent, purged, afterPurge, risen, checkedOnce, validatedOnce, fresh};
 
 pub const EMPTY: u8 = 1;
 
@@ -94,6 +94,17 @@ pub struct Face {
     pub protected: Block,
     pub issuer: Issuer,
     pub last: Last,
+}
+
+// The front of a face, a few bytes: all but the data and the last signatures, of which it has the issuer's counter and how many.
+pub struct Front {
+    pub fixed: Fixed,
+    pub flags: Flags,
+    pub wallet: Wallet,
+    pub key: Key,
+    pub counters: Counters,
+    pub issuer: u32,
+    pub last: u8,
 }
 
 pub struct Card {
@@ -196,109 +207,6 @@ impl Counters {
             user: self.user,
             protected: self.protected,
         }
-    }
-}
-
-impl Key {
-    pub fn held(key: &[u8]) -> Key
-        ensures { λ r. ⌜ r ≡ heldKey (now (key .entry)) ⌝ }
-    {
-        Key {
-            size: (key.len() % 256) as u8,
-            bytes: wire::pad65(key),
-        }
-    }
-}
-
-impl Block {
-    pub fn held(block: &[u8]) -> Block
-        ensures { λ r. ⌜ r ≡ heldBlock (now (block .entry)) ⌝ }
-    {
-        Block {
-            size: (block.len() % 65536) as u16,
-            bytes: wire::pad512(block),
-        }
-    }
-}
-
-impl Issuer {
-    pub fn held(block: &[u8], signature: &[u8], counter: u32) -> Issuer
-        ensures { λ r. ⌜ r ≡ heldIssuer (now (block .entry)) (now (signature .entry)) counter ⌝ }
-    {
-        Issuer {
-            block: Block::held(block),
-            signature: wire::pad64(signature),
-            counter,
-        }
-    }
-}
-
-impl Last {
-    pub fn held(signatures: &[u8]) -> Last
-        ensures { λ r. ⌜ r ≡ heldLast (now (signatures .entry)) ⌝ }
-    {
-        Last {
-            count: (signatures.len() / 64 % 256) as u8,
-            signatures: wire::pad640(signatures),
-        }
-    }
-}
-
-impl Face {
-    pub fn with_wallet(self, wallet: Wallet) -> Face
-        ensures { λ r. ⌜ r ≡ withWallet wallet self ⌝ }
-    {
-        let mut next = self;
-        next.wallet = wallet;
-        next
-    }
-
-    pub fn with_key(self, key: Key) -> Face
-        ensures { λ r. ⌜ r ≡ withKey key self ⌝ }
-    {
-        let mut next = self;
-        next.key = key;
-        next
-    }
-
-    pub fn with_counters(self, counters: Counters) -> Face
-        ensures { λ r. ⌜ r ≡ withCounters counters self ⌝ }
-    {
-        let mut next = self;
-        next.counters = counters;
-        next
-    }
-
-    pub fn with_user(self, user: Block) -> Face
-        ensures { λ r. ⌜ r ≡ withUser user self ⌝ }
-    {
-        let mut next = self;
-        next.user = user;
-        next
-    }
-
-    pub fn with_protected(self, protected: Block) -> Face
-        ensures { λ r. ⌜ r ≡ withProtected protected self ⌝ }
-    {
-        let mut next = self;
-        next.protected = protected;
-        next
-    }
-
-    pub fn with_issuer(self, issuer: Issuer) -> Face
-        ensures { λ r. ⌜ r ≡ withIssuer issuer self ⌝ }
-    {
-        let mut next = self;
-        next.issuer = issuer;
-        next
-    }
-
-    pub fn with_last(self, last: Last) -> Face
-        ensures { λ r. ⌜ r ≡ withLast last self ⌝ }
-    {
-        let mut next = self;
-        next.last = last;
-        next
     }
 }
 

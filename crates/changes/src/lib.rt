@@ -1,99 +1,128 @@
-// The columns of the manual's rows that say what becomes of the card: the face after, the codes after, and what is added to 9000.
-use card::Block;
+// What becomes of the card: the image of the card after, made from that of the card before, and what is added to 9000.
 use card::Codes;
 use card::Counters;
-use card::Face;
-use card::Issuer;
-use card::Key;
-use card::Last;
+use card::Front;
 use manual::Command;
-use manual::Matched;
+use manual::Signing;
 ghost use mathlib.Core.Path.{_≡_};
 ghost use Prim.Native.Nat.{_+_, _≤_};
 ghost use mathlib.Core.Bool.{cond};
+ghost use Rattle.wire.specs.Wire.{Wrote};
+ghost use Rattle.fields.specs.Fields.{holds};
+ghost use Rattle.card.specs.declared.Card.{Card};
+ghost use Rattle.card.specs.Image.{decode};
+ghost use Rattle.card.specs.Values.{bare, faced, withUser, withProtected, withCounters, checkedOnce, validatedOnce};
+ghost use Rattle.image.specs.Holds.{Turned};
 ghost use Rattle.manual.specs.Commands.{row};
 ghost use Rattle.manual.specs.Wallet.{createdFace, purgedFace, newCodes, isNew, count, signedFace};
 ghost use Rattle.manual.specs.Storage.{storedBlock, storedNumber, storedCounters, storedFace, keptCounter, issuerFace};
-ghost use Rattle.card.specs.Values.{withCounters, checkedOnce, validatedOnce};
+ghost use Rattle.manual.specs.Settle.{matched};
+ghost use Rattle.changes.specs.Carried.{carriedCard, carriedImage};
 
-// THE FACE AFTER.
-pub fn next_face(cmd: Command, face: Face, p: &[u8], answers: &[u8]) -> Face
-    ensures { λ r. ⌜ r ≡ row cmd .next face (now (p .entry)) (now (answers .entry)) ⌝ }
+// THE IMAGE AFTER: the image before, with the groups anew that the command changes.
+pub fn change(cmd: Command, img: &[u8], p: &[u8], answers: &[u8], next: &mut [u8]) -> usize
+    ensures { λ r. ⌜ Wrote (now (next .entry)) 0 (carriedImage cmd (now (img .entry)) (now (p .entry)) (now (answers .entry))) (now (next .exit)) r ⌝ }
+{
+    if img.len() != card::IMAGE_SIZE {
+        return 0;
+    }
+    if wire::has_room(next.len(), 0, card::IMAGE_SIZE) {
+        wire::put_bytes(next, 0, img);
+        alter(cmd, img, p, answers, next);
+        return card::IMAGE_SIZE;
+    }
+    0
+}
+
+// What becomes of the card of which next holds the image.
+fn alter(cmd: Command, img: &[u8], p: &[u8], answers: &[u8], next: &mut [u8])
+    ensures { λ _. ⌜ Turned (decode (now (img .entry))) (carriedCard cmd (decode (now (img .entry))) (now (p .entry)) (now (answers .entry))) (now (next .entry)) (now (next .exit)) ⌝ }
 {
     match cmd {
-        Command::ReadCard => face,
-        Command::CreateWallet => created(face, answers),
-        Command::CheckWallet => checked(face),
-        Command::SetPin => face,
-        Command::Sign => signed(face, p, answers),
-        Command::VerifyCard => face,
-        Command::ValidateCard => validated(face),
-        Command::PurgeWallet => purged(face),
-        Command::ReadUserData => face,
-        Command::WriteUserData => stored(face, p),
-        Command::WriteIssuerData => noted(face, p),
-        Command::ReadIssuerData => face,
+        Command::ReadCard => {}
+        Command::CreateWallet => created(img, answers, next),
+        Command::CheckWallet => checked(img, next),
+        Command::SetPin => recoded(p, next),
+        Command::Sign => signed(img, p, answers, next),
+        Command::VerifyCard => {}
+        Command::ValidateCard => validated(img, next),
+        Command::PurgeWallet => purged(img, next),
+        Command::ReadUserData => {}
+        Command::WriteUserData => stored(img, p, next),
+        Command::WriteIssuerData => noted(img, p, next),
+        Command::ReadIssuerData => {}
     }
 }
 
-fn created(face: Face, answers: &[u8]) -> Face
-    ensures { λ r. ⌜ r ≡ createdFace face (now (answers .entry)) ⌝ }
+fn created(img: &[u8], answers: &[u8], next: &mut [u8])
+    ensures { λ _. ⌜ Turned (decode (now (img .entry))) (faced (createdFace (decode (now (img .entry)) .face) (now (answers .entry))) (decode (now (img .entry)))) (now (next .entry)) (now (next .exit)) ⌝ }
 {
-    let wallet = face.wallet;
-    let begun = face.with_wallet(wallet.create(face.fixed.max));
-    begun.with_key(Key::held(answers))
+    let fixed = image::fixed(img);
+    let wallet = image::wallet(img);
+    image::anew::wallet(next, wallet.create(fixed.max));
+    image::anew::key(next, answers);
 }
 
-fn checked(face: Face) -> Face
-    ensures { λ r. ⌜ r ≡ withCounters (checkedOnce (face .counters)) face ⌝ }
+fn checked(img: &[u8], next: &mut [u8])
+    ensures { λ _. ⌜ Turned (decode (now (img .entry))) (faced (withCounters (checkedOnce (decode (now (img .entry)) .face .counters)) (decode (now (img .entry)) .face)) (decode (now (img .entry)))) (now (next .entry)) (now (next .exit)) ⌝ }
 {
-    let counters = face.counters;
-    face.with_counters(counters.checked())
+    let counters = image::counters(img);
+    image::anew::counters(next, counters.checked());
 }
 
-fn validated(face: Face) -> Face
-    ensures { λ r. ⌜ r ≡ withCounters (validatedOnce (face .counters)) face ⌝ }
+fn validated(img: &[u8], next: &mut [u8])
+    ensures { λ _. ⌜ Turned (decode (now (img .entry))) (faced (withCounters (validatedOnce (decode (now (img .entry)) .face .counters)) (decode (now (img .entry)) .face)) (decode (now (img .entry)))) (now (next .entry)) (now (next .exit)) ⌝ }
 {
-    let counters = face.counters;
-    face.with_counters(counters.validated())
+    let counters = image::counters(img);
+    image::anew::counters(next, counters.validated());
 }
 
 // The last signatures again: no change.
-fn signed(face: Face, p: &[u8], answers: &[u8]) -> Face
-    ensures { λ r. ⌜ r ≡ cond (isNew (now (p .entry))) (signedFace face (count (now (p .entry))) (now (answers .entry))) face ⌝ }
+fn signed(img: &[u8], p: &[u8], answers: &[u8], next: &mut [u8])
+    ensures { λ _. ⌜ Turned (decode (now (img .entry))) (faced (cond (isNew (now (p .entry))) (signedFace (decode (now (img .entry)) .face) (count (now (p .entry))) (now (answers .entry))) (decode (now (img .entry)) .face)) (decode (now (img .entry)))) (now (next .entry)) (now (next .exit)) ⌝ }
 {
-    let anew = signed_anew(face, request::hash_count(p), answers);
-    if request::is_new(p) { anew } else { face }
+    let Signing::New(n) = request::signing(p) else {
+        return;
+    };
+    signed_anew(img, n / 32, answers, next);
 }
 
-fn signed_anew(face: Face, n: usize, answers: &[u8]) -> Face
-    ensures { λ r. ⌜ r ≡ signedFace face n (now (answers .entry)) ⌝ }
+fn signed_anew(img: &[u8], n: usize, answers: &[u8], next: &mut [u8])
+    ensures { λ _. ⌜ Turned (decode (now (img .entry))) (faced (signedFace (decode (now (img .entry)) .face) n (now (answers .entry))) (decode (now (img .entry)))) (now (next .entry)) (now (next .exit)) ⌝ }
 {
     let hashes = (n % 4294967296) as u32;
-    let wallet = face.wallet;
-    let spent = face.with_wallet(wallet.sign(hashes));
-    let counters = face.counters;
-    let risen = spent.with_counters(counters.signed());
-    risen.with_last(Last::held(answers))
+    let wallet = image::wallet(img);
+    image::anew::wallet(next, wallet.sign(hashes));
+    let counters = image::counters(img);
+    image::anew::counters(next, counters.signed());
+    image::anew::last(next, answers);
 }
 
-fn purged(face: Face) -> Face
-    ensures { λ r. ⌜ r ≡ purgedFace face ⌝ }
+fn purged(img: &[u8], next: &mut [u8])
+    ensures { λ _. ⌜ Turned (decode (now (img .entry))) (faced (purgedFace (decode (now (img .entry)) .face)) (decode (now (img .entry)))) (now (next .entry)) (now (next .exit)) ⌝ }
 {
     let none = [0u8; 0];
-    let wallet = face.wallet;
-    let ended = face.with_wallet(wallet.purge(face.flags.reusable));
-    ended.with_key(Key::held(&none))
+    let wallet = image::wallet(img);
+    let flags = image::flags(img);
+    image::anew::wallet(next, wallet.purge(flags.reusable));
+    image::anew::key(next, &none);
 }
 
 // What is there is stored.
-fn stored_block(tag: u8, p: &[u8], old: Block) -> Block
-    ensures { λ r. ⌜ r ≡ storedBlock tag (now (p .entry)) old ⌝ }
+fn stored_user(p: &[u8], next: &mut [u8])
+    ensures { λ _. ⌜ ((c : Card) → Turned c (faced (withUser (storedBlock 0x2A (now (p .entry)) (c .face .user)) (c .face)) c) (now (next .entry)) (now (next .exit))) ⌝ }
 {
-    if fields::has(p, tag) {
-        return Block::held(fields::value(p, tag));
+    if fields::has(p, 0x2A) {
+        image::anew::user(next, fields::value(p, 0x2A));
     }
-    old
+}
+
+fn stored_protected(p: &[u8], next: &mut [u8])
+    ensures { λ _. ⌜ ((c : Card) → Turned c (faced (withProtected (storedBlock 0x2B (now (p .entry)) (c .face .protected)) (c .face)) c) (now (next .entry)) (now (next .exit))) ⌝ }
+{
+    if fields::has(p, 0x2B) {
+        image::anew::protected(next, fields::value(p, 0x2B));
+    }
 }
 
 fn stored_number(tag: u8, p: &[u8], old: u32) -> u32
@@ -116,75 +145,54 @@ fn stored_counters(p: &[u8], old: Counters) -> Counters
     }
 }
 
-fn stored(face: Face, p: &[u8]) -> Face
-    ensures { λ r. ⌜ r ≡ storedFace face (now (p .entry)) ⌝ }
+fn stored(img: &[u8], p: &[u8], next: &mut [u8])
+    ensures { λ _. ⌜ Turned (decode (now (img .entry))) (faced (storedFace (decode (now (img .entry)) .face) (now (p .entry))) (decode (now (img .entry)))) (now (next .entry)) (now (next .exit)) ⌝ }
 {
-    let user = face.user;
-    let protected = face.protected;
-    let counters = face.counters;
-    let a = face.with_user(stored_block(0x2A, p, user));
-    let b = a.with_protected(stored_block(0x2B, p, protected));
-    b.with_counters(stored_counters(p, counters))
+    stored_user(p, next);
+    stored_protected(p, next);
+    let counters = image::counters(img);
+    image::anew::counters(next, stored_counters(p, counters));
 }
 
 // The counter is stored only if protected.
-fn kept_counter(face: Face, p: &[u8]) -> u32
-    ensures { λ r. ⌜ r ≡ keptCounter face (now (p .entry)) ⌝ }
+fn kept_counter(face: Front, p: &[u8]) -> u32
+    ensures { λ r. ⌜ r ≡ keptCounter (bare face) (now (p .entry)) ⌝ }
 {
     let sent = request::sent_counter(p);
     if face.flags.replay == 1 {
         sent
     } else {
-        face.issuer.counter
+        face.issuer
     }
 }
 
-fn noted(face: Face, p: &[u8]) -> Face
-    ensures { λ r. ⌜ r ≡ issuerFace face (now (p .entry)) ⌝ }
+fn noted(img: &[u8], p: &[u8], next: &mut [u8])
+    ensures { λ _. ⌜ Turned (decode (now (img .entry))) (faced (issuerFace (decode (now (img .entry)) .face) (now (p .entry))) (decode (now (img .entry)))) (now (next .entry)) (now (next .exit)) ⌝ }
 {
-    let counter = kept_counter(face, p);
-    let issuer = Issuer::held(fields::value(p, 0x32), fields::value(p, 0x33), counter);
-    face.with_issuer(issuer)
+    let counter = kept_counter(image::front(img), p);
+    image::anew::issuer(
+        next,
+        fields::value(p, 0x32),
+        fields::value(p, 0x33),
+        counter,
+    );
 }
 
-// THE CODES AFTER.
-pub fn recode(cmd: Command, codes: Codes, p: &[u8]) -> Codes
-    ensures { λ r. ⌜ r ≡ row cmd .recode (now (p .entry)) codes ⌝ }
+fn recoded(p: &[u8], next: &mut [u8])
+    ensures { λ _. ⌜ ((c : Card) → Turned c (record { face = c .face; codes = newCodes (now (p .entry)) }) (now (next .entry)) (now (next .exit))) ⌝ }
 {
-    match cmd {
-        Command::ReadCard => codes,
-        Command::CreateWallet => codes,
-        Command::CheckWallet => codes,
-        Command::SetPin => new_codes(p),
-        Command::Sign => codes,
-        Command::VerifyCard => codes,
-        Command::ValidateCard => codes,
-        Command::PurgeWallet => codes,
-        Command::ReadUserData => codes,
-        Command::WriteUserData => codes,
-        Command::WriteIssuerData => codes,
-        Command::ReadIssuerData => codes,
-    }
-}
-
-fn new_codes(p: &[u8]) -> Codes
-    ensures { λ r. ⌜ r ≡ newCodes (now (p .entry)) ⌝ }
-{
-    Codes {
-        pin1: wire::pad32(fields::value(p, 0x12)),
-        pin2: wire::pad32(fields::value(p, 0x13)),
-    }
+    image::anew::codes(next, fields::value(p, 0x12), fields::value(p, 0x13));
 }
 
 // What is added to 9000.
-pub fn more(cmd: Command, m: Matched) -> u16
-    ensures { λ r. ⌜ (r ≡ row cmd .more m) × (r ≤ 3) ⌝ }
+pub fn more(cmd: Command, codes: Codes, p: &[u8]) -> u16
+    ensures { λ r. ⌜ (r ≡ row cmd .more (matched codes (now (p .entry)))) × (r ≤ 3) ⌝ }
 {
     match cmd {
         Command::ReadCard => 0,
         Command::CreateWallet => 0,
         Command::CheckWallet => 0,
-        Command::SetPin => changed(m.new1, 1) + changed(m.new2, 2),
+        Command::SetPin => renewed(codes, p),
         Command::Sign => 0,
         Command::VerifyCard => 0,
         Command::ValidateCard => 0,
@@ -203,4 +211,13 @@ fn changed(same: bool, n: u16) -> u16
         return 0;
     }
     n
+}
+
+// SET_PIN: 1 for PIN1, 2 for PIN2, each where it changed.
+fn renewed(codes: Codes, p: &[u8]) -> u16
+    ensures { λ r. ⌜ (r ≡ cond (holds 0x12 (now (p .entry)) (codes .pin1)) 0 1 + cond (holds 0x13 (now (p .entry)) (codes .pin2)) 0 2) × (r ≤ 3) ⌝ }
+{
+    let pin1 = codes.pin1;
+    let pin2 = codes.pin2;
+    changed(fields::holds(p, 0x12, &pin1), 1) + changed(fields::holds(p, 0x13, &pin2), 2)
 }

@@ -1,16 +1,17 @@
 // The columns of the manual's rows that the checks 7 to 12 read: one function a column, one arm a command.
-use card::Face;
+use card::Codes;
+use card::Front;
 use manual::Command;
-use manual::Matched;
 use manual::Needs;
+use manual::Signing;
 ghost use mathlib.Core.Path.{_≡_};
 ghost use mathlib.Core.Bool.{not, _&&_, _||_};
-ghost use mathlib.Core.List.{[], _∷_};
 ghost use lib.ListN.{length};
 ghost use lib.Dec.{eqb, ltb};
-ghost use Rattle.wire.specs.Wire.{alike};
-ghost use Rattle.fields.specs.Fields.{val};
+ghost use Rattle.fields.specs.Fields.{val, holds};
+ghost use Rattle.card.specs.Values.{bare};
 ghost use Rattle.manual.specs.Commands.{row};
+ghost use Rattle.manual.specs.Settle.{matched};
 ghost use Rattle.manual.specs.Wallet.{pinFields, signFields, signConditions, hashesOk};
 ghost use Rattle.manual.specs.Checking.{challenged, checkFields};
 ghost use Rattle.manual.specs.Storage.{isData, blockSent, numberSent, anySent, userFields, modeOk, guarded, sentCounter};
@@ -69,8 +70,8 @@ pub fn needs_pin2(cmd: Command, p: &[u8]) -> bool
 }
 
 // CHECK 11: the command's own fields.
-pub fn fields_ok(cmd: Command, face: Face, p: &[u8]) -> bool
-    ensures { λ r. ⌜ r ≡ row cmd .fields face (now (p .entry)) ⌝ }
+pub fn fields_ok(cmd: Command, face: Front, p: &[u8]) -> bool
+    ensures { λ r. ⌜ r ≡ row cmd .fields (bare face) (now (p .entry)) ⌝ }
 {
     match cmd {
         Command::ReadCard => true,
@@ -115,19 +116,11 @@ fn pin_fields(p: &[u8]) -> bool
 fn sign_fields(p: &[u8]) -> bool
     ensures { λ r. ⌜ r ≡ signFields (now (p .entry)) ⌝ }
 {
-    if request::is_new(p) {
-        return wire::both(fields::has(p, 0x50), hashes_right(p));
-    }
-    true
-}
-
-fn hashes_right(p: &[u8]) -> bool
-    ensures { λ r. ⌜ r ≡ (alike (val 0x51 (now (p .entry))) (32 ∷ []) && hashesOk (length (val 0x50 (now (p .entry))))) ⌝ }
-{
+    let Signing::New(n) = request::signing(p) else {
+        return true;
+    };
     let size = [32u8];
-    let ok = wire::equal(fields::value(p, 0x51), &size);
-    let hashes = fields::value(p, 0x50);
-    wire::both(ok, whole_hashes(hashes.len()))
+    wire::both(whole_hashes(n), wire::equal(fields::value(p, 0x51), &size))
 }
 
 fn whole_hashes(n: usize) -> bool
@@ -201,14 +194,14 @@ fn issuer_proof(replay: u8, p: &[u8]) -> bool
 }
 
 // CHECK 12: the command's own conditions.
-pub fn conditions_ok(cmd: Command, m: Matched, face: Face, p: &[u8]) -> bool
-    ensures { λ r. ⌜ r ≡ row cmd .conditions m face (now (p .entry)) ⌝ }
+pub fn conditions_ok(cmd: Command, codes: Codes, face: Front, p: &[u8]) -> bool
+    ensures { λ r. ⌜ r ≡ row cmd .conditions (matched codes (now (p .entry))) (bare face) (now (p .entry)) ⌝ }
 {
     match cmd {
         Command::ReadCard => true,
         Command::CreateWallet => face.wallet.number < 65535,
         Command::CheckWallet => true,
-        Command::SetPin => pin_conditions(m, face),
+        Command::SetPin => pin_conditions(codes, face, p),
         Command::Sign => sign_conditions(face, p),
         Command::VerifyCard => true,
         Command::ValidateCard => face.counters.validations < 65535,
@@ -221,29 +214,31 @@ pub fn conditions_ok(cmd: Command, m: Matched, face: Face, p: &[u8]) -> bool
 }
 
 // A code that differs from the stored one may change.
-fn pin_conditions(m: Matched, face: Face) -> bool
-    ensures { λ r. ⌜ r ≡ ((m .new1 || eqb (face .flags .setpin1) 1) && (m .new2 || eqb (face .flags .setpin2) 1)) ⌝ }
+fn pin_conditions(codes: Codes, face: Front, p: &[u8]) -> bool
+    ensures { λ r. ⌜ r ≡ ((holds 0x12 (now (p .entry)) (codes .pin1) || eqb (face .flags .setpin1) 1) && (holds 0x13 (now (p .entry)) (codes .pin2) || eqb (face .flags .setpin2) 1)) ⌝ }
 {
-    let first = wire::either(m.new1, face.flags.setpin1 == 1);
-    let second = wire::either(m.new2, face.flags.setpin2 == 1);
+    let pin1 = codes.pin1;
+    let first = wire::either(fields::holds(p, 0x12, &pin1), face.flags.setpin1 == 1);
+    let pin2 = codes.pin2;
+    let second = wire::either(fields::holds(p, 0x13, &pin2), face.flags.setpin2 == 1);
     wire::both(first, second)
 }
 
-fn sign_conditions(face: Face, p: &[u8]) -> bool
-    ensures { λ r. ⌜ r ≡ signConditions face (now (p .entry)) ⌝ }
+fn sign_conditions(face: Front, p: &[u8]) -> bool
+    ensures { λ r. ⌜ r ≡ signConditions (bare face) (now (p .entry)) ⌝ }
 {
-    if request::is_new(p) {
-        let sum = face.wallet.signed as usize + request::hash_count(p);
-        return wire::both(0 < face.wallet.remaining, sum <= 4294967295);
-    }
-    0 < face.last.count
+    let Signing::New(n) = request::signing(p) else {
+        return 0 < face.last;
+    };
+    let sum = face.wallet.signed as usize + n / 32;
+    wire::both(0 < face.wallet.remaining, sum <= 4294967295)
 }
 
-fn issuer_conditions(face: Face, p: &[u8]) -> bool
-    ensures { λ r. ⌜ r ≡ (not (guarded face) || ltb (face .issuer .counter) (sentCounter (now (p .entry)))) ⌝ }
+fn issuer_conditions(face: Front, p: &[u8]) -> bool
+    ensures { λ r. ⌜ r ≡ (not (guarded (bare face)) || ltb (face .issuer) (sentCounter (now (p .entry)))) ⌝ }
 {
     wire::either(
         wire::unless(face.flags.replay == 1),
-        face.issuer.counter < request::sent_counter(p),
+        face.issuer < request::sent_counter(p),
     )
 }

@@ -1,9 +1,7 @@
 -- Laws of the field walk: what a step tells of its bounds, and the one equation that unfolds the run of fields, in which no count of turns is left. Assumes nothing.
 use Prim.Native.Nat.{ℕ, zero, suc, _+_, _-_, _≤_, _<_}
 use native.Mathlib.Omega.{arith}
-use native.Mathlib.Decide.{ℕ-discrete}
-use native.Mathlib.Nat.{add-zero, add-suc}
-use mathlib.Core.Path.{_≡_, refl, sym, ap, _∙_, subst, subst₂}
+use mathlib.Core.Path.{_≡_, refl, sym, ap, _∙_, subst}
 use mathlib.Core.List.{List, [], _∷_, _++_}
 use mathlib.Core.Bool.{Bool, true, false, cond}
 use lib.ListN.{length, getD, length-append}
@@ -13,9 +11,9 @@ use Rattle.fields.specs.declared.Step.{Step}
 use Rattle.fields.specs.declared.Step.the-variants.{Field, Bad, End}
 use Rattle.fields.specs.declared.Found.{Found}
 use Rattle.fields.specs.declared.Found.the-variants.{At, Absent}
-use Rattle.wire.specs.Wire.{room, Wrote, Wrotes, Ran, Runs, joined, put, fit, placed, be2}
+use Rattle.wire.specs.Wire.{room, Wrote, Wrotes, Runs, joined, put, fit, placed, be2}
 use Rattle.wire.proofs.Laws.{room-true, room-false, by-cases, runs, then, tested, refused, put-nil, wrote-none, wrote-more, wrote-append, joined-append, all-run}
-use Rattle.fields.specs.Fields.{Told, headOf, tlv, Tagged, fld, each, written, fieldAt, stepAt, Item, Run, ended, broken, one, goOn, runN, restFrom, firstIn}
+use Rattle.fields.specs.Fields.{Told, headOf, tlv, Tagged, fld, each, written, fieldAt, stepAt, Run, one, goOn, runN, restFrom, firstIn}
 
 -- what a step tells: a field ends past where it started and within the payload
 abbrev pub Bounds : List ℕ → ℕ → Step → Type 0
@@ -74,6 +72,25 @@ hit t s at e h = ap (firstIn t) (after s at e) ∙ simp (eq-eqb _ _ h)
 
 pub miss : (t : ℕ) (s : List ℕ) (at : ℕ) {u b n x : ℕ} → stepAt s at ≡ Field u b n x → (u ≡ t → ⊥) → firstIn t (restFrom s at) ≡ firstIn t (restFrom s x)
 miss t s at e h = ap (firstIn t) (after s at e) ∙ simp (ne-eqb _ _ h)
+
+-- a field that is found stands within the payload
+abbrev pub Inside : List ℕ → Found → Type 0
+Inside s (At b n x) = b + n ≤ length s
+Inside s Absent = Unit {0}
+
+inside-step : (t : ℕ) (s : List ℕ) (at : ℕ) (st : Step) → Bounds s at st → (k : ℕ → Run) → ((x : ℕ) → Inside s (firstIn t (k x))) → Inside s (firstIn t (goOn st k))
+inside-step t s at (Field u b n x) f k h = by-cases (Inside s) (eqb u t) (λ e. omega arith) (λ e. h x)
+inside-step t s at Bad f k h = tt
+inside-step t s at End f k h = tt
+
+inside-run : (t : ℕ) (s : List ℕ) (n at : ℕ) → Inside s (firstIn t (runN n s at))
+unfolding runN
+inside-run t s zero at = tt
+inside-run t s (suc n) at = inside-step t s at (stepAt s at) (bounds s at) (runN n s) (inside-run t s n)
+
+pub inside : (t : ℕ) (s : List ℕ) (at : ℕ) {f : Found} → firstIn t (restFrom s at) ≡ f → Inside s f
+unfolding restFrom
+inside t s at e = subst (Inside s) e (inside-run t s (length s) at)
 
 -- WRITING: the head of a field, by its length
 pub head-short : (t n : ℕ) → n < 255 → headOf t n ≡ t ∷ n ∷ []

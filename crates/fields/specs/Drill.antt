@@ -2,7 +2,7 @@
 use Prim.Native.Nat.{ℕ}
 use mathlib.Core.Path.{_≡_, refl}
 use mathlib.Core.List.{[], _∷_}
-use mathlib.Core.Bool.{Bool, true, false}
+use mathlib.Core.Bool.{true, false}
 use Rattle.fields.specs.Fields.{Item, ended, broken, one, restFrom, runN, stepAt, fieldAt, wellFormed}
 
 -- a field with the tag, whose value starts at b and has n bytes, and which ends at x

@@ -30,15 +30,17 @@ pub enum Found {
 
 // The field whose tag stands at `at` and whose value starts at b and has n bytes.
 fn field_at(s: &[u8], at: usize, b: usize, n: usize) -> Step
-    requires { ⌜ (at < length (now s)) × (b ≤ length (now s)) ⌝ }
+    requires { ⌜ (at < length (now s)) × (b ≤ length (now s)) × (n < 65536) ⌝ }
     ensures { λ r. ⌜ r ≡ fieldAt (now (s .entry)) at b n ⌝ }
 {
-    if n <= s.len() - b {
+    let size = s.len();
+    let next = b + n;
+    if next <= size {
         Step::Field {
             tag: s[at],
             start: b,
             len: n,
-            next: b + n,
+            next,
         }
     } else {
         Step::Bad

@@ -10,7 +10,7 @@ use Rattle.card.specs.declared.Face.{Face}
 use Rattle.card.specs.declared.Card.{Card}
 use Rattle.manual.specs.declared.Command.{Command}
 use Rattle.manual.specs.declared.Command.the-variants.{ReadCard, CreateWallet, CheckWallet, SetPin, Sign, VerifyCard, ValidateCard, PurgeWallet, ReadUserData, WriteUserData, WriteIssuerData, ReadIssuerData}
-use Rattle.manual.specs.declared.Matched.{Matched}
+use Rattle.manual.specs.Row.{Matched}
 use Rattle.manual.specs.Request.{command, payload}
 use Rattle.manual.specs.Row.{Question}
 use Rattle.manual.specs.Wallet.{readCard, createWallet, setPin, sign, purgeWallet}
@@ -19,11 +19,12 @@ use Rattle.manual.specs.Storage.{readUserData, writeUserData, writeIssuerData, 
 use Rattle.manual.specs.Commands.{row}
 use Rattle.manual.specs.Settle.{matched, judged, Said, fieldsOf, done, saidTo, recoded, cardAfter, questionsOf}
 use Rattle.history.specs.Sums.{Sheet, History, tap, bodyOf, isDone, accepted, codes}
-use Rattle.image.specs.Shape.{ShapeFace, Shape}
+use Rattle.card.specs.Shape.{ShapeFace, Shape}
 use Rattle.history.proofs.Taps.{accepts, val-told, Passed, watch, Same, by-tap}
 use Rattle.history.proofs.Told.{writes}
 use Rattle.history.proofs.Seen.{look, look-none, tests}
-use Rattle.history.proofs.Keeps.{Inv, keeps, next-shape, code-shape}
+use Rattle.manual.proofs.Shapes.{next-shape, code-shape}
+use Rattle.history.proofs.Keeps.{Inv, keeps}
 
 -- a command adds at most 3 to 9000
 small : (k : Command) (m : Matched) → row k .more m ≤ 3

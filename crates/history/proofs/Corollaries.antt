@@ -16,13 +16,13 @@ use Rattle.card.specs.Values.{fresh}
 use Rattle.card.specs.Image.{encode, decode}
 use Rattle.card.specs.Valid.{curveKnown, okFlags}
 use Rattle.manual.specs.declared.Command.{Command}
-use Rattle.manual.specs.declared.Matched.{Matched}
+use Rattle.manual.specs.Row.{Matched}
 use Rattle.manual.specs.Request.{command, payload}
 use Rattle.manual.specs.Row.{asked}
 use Rattle.manual.specs.Wallet.{sign, isNew, count, hashQuestions}
 use Rattle.manual.specs.Commands.{row}
 use Rattle.manual.specs.Settle.{matched, done, saidTo, cardAfter}
-use Rattle.image.specs.Shape.{ShapeCodes, ShapeFixed}
+use Rattle.card.specs.Shape.{ShapeCodes, ShapeFixed}
 use Rattle.image.proofs.Round.{decode-encode, shape-decode}
 use Rattle.image.proofs.Fresh.{shape-fresh, fresh-is-card}
 use Rattle.history.specs.Sums.{Sheet, tap, bodyOf, isDone, accepted, did, signedNew, wallets}

@@ -18,7 +18,7 @@ use Rattle.manual.specs.Settle.{matched, Said, done, saidTo, cardAfter, Settled
 use Rattle.history.specs.Sums.{Sheet, History, tap}
 use Rattle.history.specs.Demands.{AnyCard, Call, askBy, settleBy, Demand2, questions, response, image, tapBy, imageBy, left, played, Fresh, OneMore, Demand3}
 use Rattle.history.proofs.Choice.{by-cases, clash}
-use Rattle.image.specs.Shape.{Shape}
+use Rattle.card.specs.Shape.{Shape}
 use Rattle.image.proofs.Shape.{length-encode}
 use Rattle.image.proofs.Round.{decode-encode, shape-decode}
 use Rattle.history.proofs.Taps.{by-tap, watch}

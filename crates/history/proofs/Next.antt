@@ -15,7 +15,7 @@ use Rattle.card.specs.declared.Card.{Card}
 use Rattle.card.specs.Values.{lastOf}
 use Rattle.manual.specs.declared.Command.{Command}
 use Rattle.manual.specs.declared.Command.the-variants.{ReadCard, CreateWallet, CheckWallet, SetPin, Sign, VerifyCard, ValidateCard, PurgeWallet, ReadUserData, WriteUserData, WriteIssuerData, ReadIssuerData}
-use Rattle.manual.specs.declared.Matched.{Matched}
+use Rattle.manual.specs.Row.{Matched}
 use Rattle.manual.specs.Request.{command, payload}
 use Rattle.manual.specs.Row.{Question, asked, sizes, firstOk, shaped, allowed}
 use Rattle.manual.specs.Wallet.{readCard, createWallet, setPin, sign, purgeWallet, isNew, count, hashesOk, signFields, signConditions, hashQuestions}
@@ -29,7 +29,8 @@ use Rattle.history.proofs.Choice.{both-true, clash, or-false, ins-creat
 use Rattle.history.proofs.Taps.{has-told, val-told, Passed, watch, by-tap, Carried, carried}
 use Rattle.history.proofs.Told.{writes, Reports, reports, loaded, still}
 use Rattle.history.proofs.Seen.{look}
-use Rattle.history.proofs.Keeps.{Inv, next-shape}
+use Rattle.manual.proofs.Shapes.{next-shape}
+use Rattle.history.proofs.Keeps.{Inv}
 use Rattle.history.proofs.Cards.{after, xs, Fits, fits-tap}
 
 -- THE ANSWERS to new hashes, 1 to 10

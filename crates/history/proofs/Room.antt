@@ -17,14 +17,14 @@ use Rattle.card.specs.declared.Face.{Face}
 use Rattle.card.specs.Values.{keyOf, blockOf, lastOf}
 use Rattle.manual.specs.declared.Command.{Command}
 use Rattle.manual.specs.declared.Command.the-variants.{ReadCard, CreateWallet, CheckWallet, SetPin, Sign, VerifyCard, ValidateCard, PurgeWallet, ReadUserData, WriteUserData, WriteIssuerData, ReadIssuerData}
-use Rattle.manual.specs.declared.Matched.{Matched}
+use Rattle.manual.specs.Row.{Matched}
 use Rattle.manual.specs.Row.{Question, question, eachAsked, asked}
 use Rattle.manual.specs.Wallet.{isLoaded, isActive, curveName, walletFields, activeFields, readFields, readCard, createWallet, setPin, sign, purgeWallet, isNew, count, hashQuestions}
 use Rattle.manual.specs.Checking.{keySalt, challenged, keyAsked, keyAlone, checkFields, keyMessage, keyFields, checkWallet, verifyCard, validateCard}
 use Rattle.manual.specs.Storage.{heldField, isData, isNumber, modeOk, guarded, counterBytes, noteFields, counterField, readUserData, writeUserData, writeIssuerData, readIssuerData}
 use Rattle.manual.specs.Commands.{row}
 use Rattle.manual.specs.Settle.{fieldsOf}
-use Rattle.image.specs.Shape.{ShapeFace}
+use Rattle.card.specs.Shape.{ShapeFace}
 use Rattle.history.proofs.Choice.{by-cases, both-true, or-false}
 use Rattle.history.proofs.Taps.{Passed}
 use Rattle.history.proofs.Told.{part-short, writes}

@@ -15,7 +15,7 @@ use Rattle.card.specs.Values.{created, spent, purged, risen, heldKey, heldIssue
 use Rattle.card.specs.Valid.{keySize, okBlock, okFace}
 use Rattle.manual.specs.declared.Command.{Command}
 use Rattle.manual.specs.declared.Command.the-variants.{ReadCard, CreateWallet, CheckWallet, SetPin, Sign, VerifyCard, ValidateCard, PurgeWallet, ReadUserData, WriteUserData, WriteIssuerData, ReadIssuerData}
-use Rattle.manual.specs.declared.Matched.{Matched}
+use Rattle.manual.specs.Row.{Matched}
 use Rattle.manual.specs.declared.Needs.{Needs}
 use Rattle.manual.specs.Request.{command, payload}
 use Rattle.manual.specs.Row.{shaped, sizes, allowed}

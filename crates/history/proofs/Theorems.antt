@@ -17,12 +17,12 @@ use Rattle.card.specs.Valid.{isCard}
 use Rattle.manual.specs.declared.Command.{Command}
 use Rattle.manual.specs.declared.Verdict.{Verdict}
 use Rattle.manual.specs.declared.Verdict.the-variants.{Pass, Stop}
-use Rattle.manual.specs.declared.Matched.{Matched}
+use Rattle.manual.specs.Row.{Matched}
 use Rattle.manual.specs.Request.{command, payload}
 use Rattle.manual.specs.Row.{Question, asked, eachAsked, shaped, rules, passed}
 use Rattle.manual.specs.Commands.{row}
 use Rattle.manual.specs.Settle.{matched, judged, wordOf, Said, refused, done, answered, said, saidBy, saidTo, cardAfter, fieldsOf, questionsOf, Settled, settled, settledOf, settledBy, lent, untouched, outcome, over, askedFor, askedOf, posed, posedBy, roomy}
-use Rattle.image.specs.Shape.{Shape}
+use Rattle.card.specs.Shape.{Shape}
 use Rattle.image.proofs.Shape.{length-encode}
 use Rattle.image.proofs.Round.{shape-decode, is-card-length, is-card-face, card-image, is-card-encode}
 use Rattle.history.specs.Sums.{isDone}
@@ -31,7 +31,7 @@ use Rattle.history.specs.Demands.{AnyCard, Call, askBy, settleBy, stop, 
 use Rattle.history.proofs.Choice.{by-cases, clash}
 use Rattle.history.proofs.Taps.{by-checks, words, Passed, named, by-outcome, by-tap}
 use Rattle.history.proofs.Cards.{done-is, after}
-use Rattle.history.proofs.Keeps.{next-shape, code-shape}
+use Rattle.manual.proofs.Shapes.{next-shape, code-shape}
 use Rattle.history.proofs.Stay.{stays, stays-tap}
 use Rattle.history.proofs.Room.{response-fits, questions-fit}
 use Rattle.history.proofs.Images.{model, quiet, by-call, shape-is, image-bytes, image-is, model-demand3, is-model}

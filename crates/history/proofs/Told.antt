@@ -15,7 +15,7 @@ use Rattle.card.specs.declared.Face.{Face}
 use Rattle.card.specs.Values.{keyOf, blockOf, lastOf}
 use Rattle.manual.specs.declared.Command.{Command}
 use Rattle.manual.specs.declared.Command.the-variants.{ReadCard, CreateWallet, CheckWallet, SetPin, Sign, VerifyCard, ValidateCard, PurgeWallet, ReadUserData, WriteUserData, WriteIssuerData, ReadIssuerData}
-use Rattle.manual.specs.declared.Matched.{Matched}
+use Rattle.manual.specs.Row.{Matched}
 use Rattle.manual.specs.declared.Needs.{Needs}
 use Rattle.manual.specs.Row.{allowed}
 use Rattle.manual.specs.Wallet.{isLoaded, isActive, curveName, readFields, readCard, createWallet, setPin, sign, purgeWallet, isNew, signedFace, count}
@@ -24,7 +24,7 @@ use Rattle.manual.specs.Storage.{heldField, noteFields, guarded, readUserData, 
 use Rattle.manual.specs.Commands.{row}
 use Rattle.manual.specs.Settle.{fieldsOf}
 use Rattle.history.proofs.Choice.{clash}
-use Rattle.image.specs.Shape.{ShapeIssuer, ShapeFace}
+use Rattle.card.specs.Shape.{ShapeIssuer, ShapeFace}
 use Rattle.history.proofs.Taps.{Passed, Watched, watch}
 
 -- A part is at most as long as is asked for, and as what it is a part of

@@ -14,7 +14,7 @@ use Rattle.card.specs.Valid.{isCard}
 use Rattle.card.specs.Values.{u32, risen, heldLast, purged, withWallet, withCounters, withLast}
 use Rattle.manual.specs.declared.Command.{Command}
 use Rattle.manual.specs.declared.Command.the-variants.{ReadCard, Sign, PurgeWallet, WriteIssuerData}
-use Rattle.manual.specs.declared.Matched.{Matched}
+use Rattle.manual.specs.Row.{Matched}
 use Rattle.manual.specs.declared.Verdict.{Verdict}
 use Rattle.manual.specs.declared.Verdict.the-variants.{Pass, Stop}
 use Rattle.manual.specs.Request.{command, payload}

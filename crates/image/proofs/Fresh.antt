@@ -1,7 +1,7 @@
 -- A FRESH CARD passes the tests and has its shape. Assumes nothing.
 use Prim.Native.Nat.{ℕ, _≤_}
 use mathlib.Core.Path.{_≡_, refl}
-use mathlib.Core.Bool.{Bool, true, false, _||_}
+use mathlib.Core.Bool.{true}
 use lib.Dec.{eqb}
 use borrow.Author.Tests.{le-leb}
 use native.Mathlib.Omega.{arith}
@@ -11,8 +11,8 @@ use Rattle.card.specs.declared.Fixed.{Fixed}
 use Rattle.card.specs.declared.Flags.{Flags}
 use Rattle.card.specs.Values.{noWallet, noKey, noBlock, noIssuer, noLast, fresh}
 use Rattle.card.specs.Image.{encode}
-use Rattle.card.specs.Valid.{curveKnown, keySize, okFlags, okRanges, okState, okKey, okBlock, okIssuer, okLast, okFace, isCard}
-use Rattle.image.specs.Shape.{ShapeCodes, ShapeFixed, Shape}
+use Rattle.card.specs.Valid.{curveKnown, keySize, okFlags, okKey, okBlock, okIssuer, okLast, okFace, isCard}
+use Rattle.card.specs.Shape.{ShapeCodes, ShapeFixed, Shape}
 use Rattle.image.proofs.Tests.{or-true, is-ranged, is-stated, is-valid}
 use Rattle.image.proofs.Round.{is-card-encode}
 

@@ -23,7 +23,7 @@ use Rattle.card.proofs.Issuer as issuer
 use Rattle.card.proofs.Last as last
 use Rattle.card.proofs.Face as face
 use Rattle.card.proofs.Card as card
-use Rattle.image.specs.Shape.{ShapeCodes, ShapeFixed, ShapeIssuer, ShapeFace, Shape}
+use Rattle.card.specs.Shape.{ShapeCodes, ShapeFixed, ShapeIssuer, ShapeFace, Shape}
 
 pub codes-held : (x : Codes) (vs : List Val) → Is (row codes.the-type) x vs → ShapeCodes x
 codes-held x vs g =

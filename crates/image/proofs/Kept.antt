@@ -1,10 +1,10 @@
 -- WHAT MAKES AN IMAGE A CARD IS KEPT: by each method of the wallet, by what is held, and so by a face with a group anew. Assumes nothing.
-use Prim.Native.Nat.{ℕ, _+_, _-_, _*_, _/_, _%_, _≤_, _<_}
+use Prim.Native.Nat.{ℕ, _+_, _-_, _*_, _/_, _≤_, _<_}
 use native.Mathlib.Omega.{arith}
-use mathlib.Core.Path.{_≡_, refl, sym, ap, _∙_}
-use mathlib.Core.Bool.{Bool, true, false, cond, not, _&&_, _||_}
+use mathlib.Core.Path.{_≡_, refl, sym, _∙_}
+use mathlib.Core.Bool.{Bool, true, false, cond, not, _||_}
 use mathlib.Core.List.{List, []}
-use lib.ListN.{length, getD, drop}
+use lib.ListN.{length, getD}
 use lib.Dec.{leb, eqb}
 use borrow.Author.Tests.{le-leb, leb-true, eq-eqb, eqb-true, eqb-false}
 use Rattle.wire.specs.Wire.{fit, room, put, pad}
@@ -12,11 +12,10 @@ use Rattle.wire.proofs.Parts.{length-pad, pad-whole, pad-room, part-pad}
 use Rattle.card.specs.declared.Fixed.{Fixed}
 use Rattle.card.specs.declared.Flags.{Flags}
 use Rattle.card.specs.declared.Wallet.{Wallet}
-use Rattle.card.specs.declared.Issuer.{Issuer}
 use Rattle.card.specs.Values.{u8, u16, created, spent, purged, afterPurge, heldKey, heldBlock, heldIssuer, heldLast, noKey, keyOf, blockOf, lastOf}
-use Rattle.card.specs.Valid.{keySize, keyTests, blockTests, issuerTests, lastTests, okFlags, okRanges, okState, okKey, okBlock, okIssuer, okLast, statusKnown}
-use Rattle.image.specs.Shape.{ShapeIssuer}
-use Rattle.image.proofs.Tests.{or-true, join, Ranged, ranged, is-ranged, Stated, stated, is-stated}
+use Rattle.card.specs.Valid.{keySize, keyTests, blockTests, issuerTests, lastTests, okRanges, okState, okKey, okBlock, okIssuer, okLast}
+use Rattle.card.specs.Shape.{ShapeIssuer}
+use Rattle.image.proofs.Tests.{or-true, join, ranged, is-ranged, stated, is-stated}
 
 or-left : (a : Bool) → (a || false) ≡ true → a ≡ true
 or-left true e = refl

@@ -6,3 +6,4 @@ pub mod Tests
 pub mod Kept
 pub mod Next
 pub mod Fresh
+pub mod Renewed

@@ -1,10 +1,10 @@
 -- THE NEXT CARD: a face with a group anew passes the tests and has its shape, and what was written of a card is its image. Assumes nothing.
 use Prim.Native.Nat.{ℕ, _+_, _≤_}
 use native.Mathlib.Omega.{arith}
-use mathlib.Core.Path.{_≡_, sym, ap, _∙_}
+use mathlib.Core.Path.{_≡_, ap, _∙_}
 use mathlib.Core.Bool.{true}
 use mathlib.Core.List.{List, _++_}
-use lib.ListN.{length, take, drop, length-append}
+use lib.ListN.{length, drop, length-append}
 use lib.Seq.{take-at, drop-at}
 use Rattle.wire.specs.Wire.{part, Wrote}
 use Rattle.wire.proofs.Laws.{runs, front, part-plain}
@@ -19,10 +19,10 @@ use Rattle.card.specs.declared.Card.{Card}
 use Rattle.card.specs.Values.{withWallet, withKey, withCounters, withUser, withProtected, withIssuer, withLast}
 use Rattle.card.specs.Image.{encode, decode}
 use Rattle.card.specs.Valid.{okRanges, okState, okKey, okBlock, okIssuer, okLast, okFace, isCard}
-use Rattle.image.specs.Shape.{ShapeIssuer, ShapeFace, Shape}
+use Rattle.card.specs.Shape.{ShapeIssuer, ShapeFace, Shape}
 use Rattle.image.proofs.Shape.{length-encode}
 use Rattle.image.proofs.Round.{decode-encode, is-card-encode}
-use Rattle.image.proofs.Tests.{Valid, valid, is-valid}
+use Rattle.image.proofs.Tests.{valid, is-valid}
 
 -- THE TESTS: those that the change touches are shown, the others are kept
 module _ (f : Face) (ok : okFace f ≡ true) where

@@ -1,8 +1,8 @@
 -- ROUND TRIPS: each group's bytes spell the group, and the other way round; then the same of the card and its image. Assumes nothing.
-use mathlib.Core.Path.{_≡_, refl, sym, ap, _∙_}
-use mathlib.Core.Bool.{true, _&&_}
+use mathlib.Core.Path.{_≡_, sym, ap, _∙_}
+use mathlib.Core.Bool.{true}
 use mathlib.Core.List.{List, [], _++_, append-assoc, append-nil}
-use Prim.Native.Nat.{ℕ, _+_, _≤_, _<_}
+use Prim.Native.Nat.{ℕ, _+_, _<_}
 use native.Mathlib.Omega.{arith}
 use lib.ListN.{length, drop}
 use lib.Dec.{lit<, eqb}
@@ -22,7 +22,7 @@ use Rattle.card.specs.declared.Face.{Face}
 use Rattle.card.specs.declared.Card.{Card}
 use Rattle.card.specs.Image.{encCodes, decCodes, encFixed, decFixed, encFlags, decFlags, encWallet, decWallet, encKey, decKey, encCounters, decCounters, encBlock, decBlock, encIssuer, decIssuer, encLast, decLast, encFace, decFace, encode, decode}
 use Rattle.card.specs.Valid.{okFace, isCard}
-use Rattle.image.specs.Shape.{ShapeCodes, ShapeFixed, ShapeIssuer, ShapeFace, Shape}
+use Rattle.card.specs.Shape.{ShapeCodes, ShapeFixed, ShapeIssuer, ShapeFace, Shape}
 use Rattle.wire.proofs.Parts.{Bytes, length-grab, grab-plain, peel, peel-array, peel8, peel16, peel32, beside, whole-part, part8, part16, part32, bytes-part}
 use Rattle.image.proofs.Shape.{long-codes, long-fixed, long-flags, long-wallet, long-key, long-counters, long-block, long-issuer, long-last, long-face, length-encode}
 

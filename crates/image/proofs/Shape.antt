@@ -1,8 +1,11 @@
 -- The lengths of a card's groups, from its shape. Assumes nothing.
 use mathlib.Core.Path.{_≡_, refl}
-use mathlib.Core.List.{_++_}
+use mathlib.Core.List.{List}
+use Prim.Native.Nat.{ℕ}
 use native.Mathlib.Omega.{arith}
 use lib.ListN.{length, length-append}
+use Rattle.wire.specs.Wire.{pad}
+use Rattle.wire.proofs.Parts.{length-pad}
 use Rattle.card.specs.declared.Codes.{Codes}
 use Rattle.card.specs.declared.Fixed.{Fixed}
 use Rattle.card.specs.declared.Flags.{Flags}
@@ -15,11 +18,14 @@ use Rattle.card.specs.declared.Last.{Last}
 use Rattle.card.specs.declared.Face.{Face}
 use Rattle.card.specs.declared.Card.{Card}
 use Rattle.card.specs.Image.{encCodes, encFixed, encFlags, encWallet, encKey, encCounters, encBlock, encIssuer, encLast, encFace, encode}
-use Rattle.image.specs.Shape.{ShapeCodes, ShapeFixed, ShapeIssuer, ShapeFace, Shape}
+use Rattle.card.specs.Shape.{ShapeCodes, ShapeFixed, ShapeIssuer, ShapeFace, Shape}
 
 pub long-codes : (x : Codes) → ShapeCodes x → length (encCodes x) ≡ 64
 unfolding encCodes
 long-codes x s = simp length-append (omega arith)
+
+pub long-pins : (a b : List ℕ) → length (encCodes (record { pin1 = pad 32 a; pin2 = pad 32 b })) ≡ 64
+long-pins a b = long-codes (record { pin1 = pad 32 a; pin2 = pad 32 b }) (record { pin1 = length-pad 32 a; pin2 = length-pad 32 b })
 
 pub long-fixed : (x : Fixed) → ShapeFixed x → length (encFixed x) ≡ 16
 unfolding encFixed

@@ -11,5 +11,5 @@ unfoldable pub encFront : Face → List ℕ
 encFront x = encFixed (x .fixed) ++ encFlags (x .flags) ++ encWallet (x .wallet) ++ encKey (x .key) ++ encCounters (x .counters)
 
 -- the tests of what is held: the key, the data and the last signatures
-unfoldable pub okHeld : Face → Bool
-okHeld x = okKey (x .fixed .curve) (x .wallet .status) (x .key) && (okBlock (x .user) && (okBlock (x .protected) && (okIssuer (x .issuer) && okLast (x .last))))
+unfoldable pub okHeld : ℕ → ℕ → Face → Bool
+okHeld curve status x = okKey curve status (x .key) && (okBlock (x .user) && (okBlock (x .protected) && (okIssuer (x .issuer) && okLast (x .last))))

@@ -1,2 +1,3 @@
+pub mod Group
 pub mod Halves
-pub mod Shape
+pub mod Holds

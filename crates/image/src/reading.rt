@@ -1,18 +1,16 @@
 // Reading an image: each group from the part of the image that is its own, at places from 0. Total: what runs past the end
 // reads as zero.
-use card::Block;
 use card::Codes;
 use card::Counters;
-use card::Face;
 use card::Fixed;
 use card::Flags;
-use card::Issuer;
+use card::Front;
 use card::Key;
-use card::Last;
 use card::Wallet;
 ghost use mathlib.Core.Path.{_≡_};
 ghost use Rattle.wire.specs.Wire.{part};
-ghost use Rattle.card.specs.Image.{decCodes, decFixed, decFlags, decWallet, decKey, decCounters, decBlock, decIssuer, decLast, decFace};
+ghost use Rattle.card.specs.Image.{decCodes, decFixed, decFlags, decWallet, decKey, decCounters, decFace};
+ghost use Rattle.card.specs.Values.{front};
 
 pub fn read_codes(img: &[u8], at: usize) -> Codes
     ensures { λ r. ⌜ r ≡ decCodes (part (now (img .entry)) at 64) ⌝ }
@@ -24,7 +22,7 @@ pub fn read_codes(img: &[u8], at: usize) -> Codes
     }
 }
 
-fn read_fixed(img: &[u8], at: usize) -> Fixed
+pub fn read_fixed(img: &[u8], at: usize) -> Fixed
     ensures { λ r. ⌜ r ≡ decFixed (part (now (img .entry)) at 16) ⌝ }
 {
     let s = wire::part(img, at, 16);
@@ -36,7 +34,7 @@ fn read_fixed(img: &[u8], at: usize) -> Fixed
     }
 }
 
-fn read_flags(img: &[u8], at: usize) -> Flags
+pub fn read_flags(img: &[u8], at: usize) -> Flags
     ensures { λ r. ⌜ r ≡ decFlags (part (now (img .entry)) at 7) ⌝ }
 {
     let s = wire::part(img, at, 7);
@@ -51,7 +49,7 @@ fn read_flags(img: &[u8], at: usize) -> Flags
     }
 }
 
-fn read_wallet(img: &[u8], at: usize) -> Wallet
+pub fn read_wallet(img: &[u8], at: usize) -> Wallet
     ensures { λ r. ⌜ r ≡ decWallet (part (now (img .entry)) at 11) ⌝ }
 {
     let s = wire::part(img, at, 11);
@@ -73,7 +71,7 @@ fn read_key(img: &[u8], at: usize) -> Key
     }
 }
 
-fn read_counters(img: &[u8], at: usize) -> Counters
+pub fn read_counters(img: &[u8], at: usize) -> Counters
     ensures { λ r. ⌜ r ≡ decCounters (part (now (img .entry)) at 14) ⌝ }
 {
     let s = wire::part(img, at, 14);
@@ -85,50 +83,17 @@ fn read_counters(img: &[u8], at: usize) -> Counters
     }
 }
 
-fn read_block(img: &[u8], at: usize) -> Block
-    ensures { λ r. ⌜ r ≡ decBlock (part (now (img .entry)) at 514) ⌝ }
-{
-    let s = wire::part(img, at, 514);
-    Block {
-        size: wire::get16(s, 0),
-        bytes: wire::take512(s, 2),
-    }
-}
-
-fn read_issuer(img: &[u8], at: usize) -> Issuer
-    ensures { λ r. ⌜ r ≡ decIssuer (part (now (img .entry)) at 582) ⌝ }
-{
-    let s = wire::part(img, at, 582);
-    Issuer {
-        block: read_block(s, 0),
-        signature: wire::take64(s, 514),
-        counter: wire::get32(s, 578),
-    }
-}
-
-fn read_last(img: &[u8], at: usize) -> Last
-    ensures { λ r. ⌜ r ≡ decLast (part (now (img .entry)) at 641) ⌝ }
-{
-    let s = wire::part(img, at, 641);
-    Last {
-        count: wire::get8(s, 0),
-        signatures: wire::take640(s, 1),
-    }
-}
-
-pub fn read_face(img: &[u8], at: usize) -> Face
-    ensures { λ r. ⌜ r ≡ decFace (part (now (img .entry)) at 2365) ⌝ }
+pub fn read_front(img: &[u8], at: usize) -> Front
+    ensures { λ r. ⌜ r ≡ front (decFace (part (now (img .entry)) at 2365)) ⌝ }
 {
     let s = wire::part(img, at, 2365);
-    Face {
+    Front {
         fixed: read_fixed(s, 0),
         flags: read_flags(s, 16),
         wallet: read_wallet(s, 23),
         key: read_key(s, 34),
         counters: read_counters(s, 100),
-        user: read_block(s, 114),
-        protected: read_block(s, 628),
-        issuer: read_issuer(s, 1142),
-        last: read_last(s, 1724),
+        issuer: wire::get32(wire::part(s, 1142, 582), 578),
+        last: wire::get8(wire::part(s, 1724, 641), 0),
     }
 }

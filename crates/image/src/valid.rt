@@ -1,20 +1,18 @@
-// When an image is a card, 01 "What the card is made of": the tests of that sentence, a function for each group of values.
-use card::Block;
+// When an image is a card, 01 "What the card is made of": the tests of that sentence, a function for each group of values. What is
+// held is looked at where it stands: it is most of an image.
 use card::ED25519;
 use card::EMPTY;
-use card::Face;
 use card::Fixed;
 use card::Flags;
-use card::Issuer;
-use card::Key;
 use card::LOADED;
-use card::Last;
 use card::PURGED;
 use card::SECP256K1;
 use card::Wallet;
 ghost use mathlib.Core.Path.{_≡_};
 ghost use mathlib.Core.Bool.{cond};
 ghost use lib.Dec.{eqb};
+ghost use Rattle.wire.specs.Wire.{part};
+ghost use Rattle.card.specs.Image.{decKey, decBlock, decIssuer, decLast, decFace};
 ghost use Rattle.card.specs.Valid.{okFlags, okRanges, okState, okKey, okBlock, okIssuer, okLast, okFace};
 ghost use Rattle.image.specs.Halves.{okHeld};
 
@@ -65,65 +63,68 @@ fn state_ok(x: Flags, w: Wallet) -> bool
 }
 
 // A key of 65 bytes starts with 04; unused room is zero.
-fn key_ok(curve: u8, status: u8, x: Key) -> bool
-    ensures { λ r. ⌜ r ≡ okKey curve status x ⌝ }
+fn key_ok(curve: u8, status: u8, s: &[u8]) -> bool
+    ensures { λ r. ⌜ r ≡ okKey curve status (decKey (now (s .entry))) ⌝ }
 {
-    let bytes = x.bytes;
-    let n = x.size as usize;
-    let start = wire::either(wire::unless(x.size == 65), wire::get8(&bytes, 0) == 4);
+    let size = wire::get8(s, 0);
+    let bytes = wire::part(s, 1, 65);
+    let start = wire::either(wire::unless(size == 65), wire::get8(bytes, 0) == 4);
     wire::both(
-        x.size == crate::key_size(curve, status),
-        wire::both(start, wire::zero_from(&bytes, n)),
+        size == crate::key_size(curve, status),
+        wire::both(start, wire::zero_from(bytes, size as usize)),
     )
 }
 
 // Data of 0 to 512 bytes; unused room is zero.
-fn block_ok(x: Block) -> bool
-    ensures { λ r. ⌜ r ≡ okBlock x ⌝ }
+fn block_ok(s: &[u8]) -> bool
+    ensures { λ r. ⌜ r ≡ okBlock (decBlock (now (s .entry))) ⌝ }
 {
-    let bytes = x.bytes;
-    let n = x.size as usize;
-    wire::both(x.size <= 512, wire::zero_from(&bytes, n))
+    let size = wire::get16(s, 0);
+    let bytes = wire::part(s, 2, 512);
+    wire::both(size <= 512, wire::zero_from(bytes, size as usize))
 }
 
 // While no data is held, the signature is zero too.
-fn issuer_ok(x: Issuer) -> bool
-    ensures { λ r. ⌜ r ≡ okIssuer x ⌝ }
+fn issuer_ok(s: &[u8]) -> bool
+    ensures { λ r. ⌜ r ≡ okIssuer (decIssuer (now (s .entry))) ⌝ }
 {
-    let block = x.block;
-    let signature = x.signature;
-    let none = wire::either(1 <= block.size, wire::zero_from(&signature, 0));
+    let block = wire::part(s, 0, 514);
+    let signature = wire::part(s, 514, 64);
+    let none = wire::either(1 <= wire::get16(block, 0), wire::zero_from(signature, 0));
     wire::both(block_ok(block), none)
 }
 
 // 0 to 10 last signatures; unused room is zero.
-fn last_ok(x: Last) -> bool
-    ensures { λ r. ⌜ r ≡ okLast x ⌝ }
+fn last_ok(s: &[u8]) -> bool
+    ensures { λ r. ⌜ r ≡ okLast (decLast (now (s .entry))) ⌝ }
 {
-    let signatures = x.signatures;
-    let n = x.count as usize * 64;
-    wire::both(x.count <= 10, wire::zero_from(&signatures, n))
+    let count = wire::get8(s, 0);
+    let signatures = wire::part(s, 1, 640);
+    wire::both(
+        count <= 10,
+        wire::zero_from(signatures, count as usize * 64),
+    )
 }
 
-fn held_ok(x: Face) -> bool
-    ensures { λ r. ⌜ r ≡ okHeld x ⌝ }
+fn held_ok(curve: u8, status: u8, s: &[u8]) -> bool
+    ensures { λ r. ⌜ r ≡ okHeld curve status (decFace (now (s .entry))) ⌝ }
 {
-    let key = x.key;
-    let user = x.user;
-    let protected = x.protected;
-    let issuer = x.issuer;
-    let last = x.last;
-    let kept = wire::both(issuer_ok(issuer), last_ok(last));
-    let data = wire::both(block_ok(user), wire::both(block_ok(protected), kept));
-    wire::both(key_ok(x.fixed.curve, x.wallet.status, key), data)
+    let issuer = issuer_ok(wire::part(s, 1142, 582));
+    let kept = wire::both(issuer, last_ok(wire::part(s, 1724, 641)));
+    let protected = wire::both(block_ok(wire::part(s, 628, 514)), kept);
+    let data = wire::both(block_ok(wire::part(s, 114, 514)), protected);
+    wire::both(key_ok(curve, status, wire::part(s, 34, 66)), data)
 }
 
-pub fn face_ok(x: Face) -> bool
-    ensures { λ r. ⌜ r ≡ okFace x ⌝ }
+pub fn face_ok(s: &[u8]) -> bool
+    ensures { λ r. ⌜ r ≡ okFace (decFace (now (s .entry))) ⌝ }
 {
-    let fixed = x.fixed;
-    let flags = x.flags;
-    let wallet = x.wallet;
-    let state = wire::both(state_ok(flags, wallet), held_ok(x));
+    let fixed = crate::reading::read_fixed(s, 0);
+    let flags = crate::reading::read_flags(s, 16);
+    let wallet = crate::reading::read_wallet(s, 23);
+    let state = wire::both(
+        state_ok(flags, wallet),
+        held_ok(fixed.curve, wallet.status, s),
+    );
     wire::both(flags_ok(flags), wire::both(ranges_ok(fixed, wallet), state))
 }

@@ -51,7 +51,7 @@ fn write_flags(x: Flags, out: &mut [u8], at: usize) -> usize
     wire::put_bytes(out, at, &bytes)
 }
 
-fn write_wallet(x: Wallet, out: &mut [u8], at: usize) -> usize
+pub fn write_wallet(x: Wallet, out: &mut [u8], at: usize) -> usize
     ensures { λ r. ⌜ (Runs (now (out .entry)) at (encWallet x) (now (out .exit)) r) × (length (encWallet x) ≡ 11) ⌝ }
 {
     let a = wire::put8(out, at, x.status);
@@ -68,7 +68,7 @@ fn write_key(x: Key, out: &mut [u8], at: usize) -> usize
     wire::give65(out, a, bytes)
 }
 
-fn write_counters(x: Counters, out: &mut [u8], at: usize) -> usize
+pub fn write_counters(x: Counters, out: &mut [u8], at: usize) -> usize
     ensures { λ r. ⌜ (Runs (now (out .entry)) at (encCounters x) (now (out .exit)) r) × (length (encCounters x) ≡ 14) ⌝ }
 {
     let a = wire::put32(out, at, x.checks);

@@ -8,8 +8,6 @@ use Rattle.wire.specs.Wire.{part, be2, be4}
 use Rattle.fields.specs.Fields.{has, val, Tagged, fld}
 use Rattle.card.specs.declared.Face.{Face}
 use Rattle.card.specs.Values.{u16, checkedOnce, validatedOnce, keyOf, withCounters}
-use Rattle.manual.specs.declared.Needs.{Needs}
-use Rattle.manual.specs.declared.Matched.{Matched}
 use Rattle.manual.specs.Row.{Question, question, Row, stays}
 
 -- draw bytes 0 to 15, and 16 to 31

@@ -2,23 +2,18 @@
 use Prim.Native.Nat.{ℕ, _+_}
 use mathlib.Core.Path.{_≡_, refl}
 use mathlib.Core.List.{List, [], _∷_, _++_}
-use mathlib.Core.Bool.{Bool, true, false, cond}
-use lib.ListN.{length, getD, replicate}
+use mathlib.Core.Bool.{false}
+use lib.ListN.{length, replicate}
 use Rattle.wire.specs.Wire.{part, put, fit, room, joined, alike, be2, be4}
-use Rattle.fields.specs.Fields.{ended, broken, one, restFrom, runN, stepAt, fieldAt, wellFormed, has, val, holds, Tagged, fld, headOf, tlv, each, written}
+use Rattle.fields.specs.Fields.{ended, one, restFrom, runN, stepAt, fieldAt, wellFormed, has, val, holds, Tagged, fld, headOf, tlv, each, written}
 use Rattle.fields.specs.Drill.{item}
-use Rattle.card.specs.declared.Fixed.{Fixed}
 use Rattle.card.specs.declared.Flags.{Flags}
 use Rattle.card.specs.declared.Codes.{Codes}
-use Rattle.card.specs.declared.Wallet.{Wallet}
-use Rattle.card.specs.declared.Counters.{Counters}
-use Rattle.card.specs.declared.Issuer.{Issuer}
 use Rattle.card.specs.declared.Face.{Face}
 use Rattle.card.specs.declared.Card.{Card}
-use Rattle.card.specs.Values.{noKey, noCounters, noBlock, noLast, heldBlock, blockOf}
-use Rattle.manual.specs.declared.Matched.{Matched}
-use Rattle.manual.specs.declared.Verdict.{Verdict}
-use Rattle.manual.specs.declared.Verdict.the-variants.{Pass, Stop}
+use Rattle.card.specs.Values.{noKey, noBlock, noLast, blockOf}
+use Rattle.manual.specs.Row.{Matched}
+use Rattle.manual.specs.declared.Verdict.the-variants.{Stop}
 use Rattle.manual.specs.Request.{lcOf, insOf}
 use Rattle.manual.specs.Row.{plain, allowed, sizes, shaped}
 use Rattle.manual.specs.Wallet.{sign, hashQuestions}

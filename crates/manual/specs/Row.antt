@@ -10,7 +10,6 @@ use Rattle.card.specs.declared.Face.{Face}
 use Rattle.card.specs.declared.Codes.{Codes}
 use Rattle.card.specs.Values.{u16}
 use Rattle.manual.specs.declared.Needs.{Needs}
-use Rattle.manual.specs.declared.Matched.{Matched}
 use Rattle.manual.specs.declared.Verdict.{Verdict}
 use Rattle.manual.specs.declared.Verdict.the-variants.{Pass, Stop}
 use Rattle.manual.specs.Request.{lcOf, fits, insOf, listed, command, payload}
@@ -59,6 +58,13 @@ firstOk (x ∷ xs) a = cond (eqb (x .kind) 1) (not (eqb (x .curve) 1) || eqb (ge
 unfoldable pub shaped : List Question → List ℕ → Bool
 shaped xs a = eqb (length a) (sizes xs) && firstOk xs a
 
+-- how the codes of a request compare with those of the card: all that is ever seen of them
+pub record Matched : Type 0 where
+  pub pin1 : Bool
+  pub pin2 : Bool
+  pub new1 : Bool
+  pub new2 : Bool
+
 -- A COMMAND. f is the face of the card, p the payload, d the draw, a the answers; no part of it sees the codes
 pub record Row : Type 0 where
   pub needs : Needs  -- checks 7 to 10
@@ -95,21 +101,26 @@ plain p2 = not (eqb p2 1 || eqb p2 2)
 unfoldable pub allowed : Needs → ℕ → Bool
 allowed n s = cond (eqb s 1) (n .empty) (cond (eqb s 2) (n .loaded) (n .purged))
 
--- checks 1 to 4, of the request
+-- checks 1 to 3: what the request is
 abbrev pub headRules : List ℕ → List Rule
 headRules q =
     rule 1 (fits (lcOf q)) 0x6700
     ∷ rule 2 (eqb (getD q 0 0) 0) 0x6E00
     ∷ rule 3 (listed (insOf (getD q 1 0))) 0x6D00
-    ∷ rule 4 (plain (getD q 3 0)) 0x6982
-    ∷ rule 4 (eqb (getD q 2 0) 0 && eqb (getD q 3 0) 0) 0x6A86
     ∷ []
 
--- checks 5 to 9, of the payload
+-- checks 4 and 5: its parameters and the form of its payload
+abbrev pub formRules : List ℕ → List Rule
+formRules q =
+    rule 4 (plain (getD q 3 0)) 0x6982
+    ∷ rule 4 (eqb (getD q 2 0) 0 && eqb (getD q 3 0) 0) 0x6A86
+    ∷ rule 5 (wellFormed (payload q)) 0x6A86
+    ∷ []
+
+-- checks 6 to 9, of the payload
 abbrev pub entryRules : Row → Matched → Face → List ℕ → List Rule
 entryRules r m f p =
-    rule 5 (wellFormed p) 0x6A86
-    ∷ rule 6 (m .pin1) 0x6A86
+    rule 6 (m .pin1) 0x6A86
     ∷ rule 7 (not (r .needs .cid) || holds 0x01 p (f .fixed .cid)) 0x6A86
     ∷ rule 8 (r .needs .asleep || eqb (f .flags .active) 1) 0x6985
     ∷ rule 9 (allowed (r .needs) (f .wallet .status)) 0x6985
@@ -125,7 +136,7 @@ ownRules r m f p =
     ∷ []
 
 abbrev pub rules : Row → Matched → Face → List ℕ → List Rule
-rules r m f q = headRules q ++ (entryRules r m f (payload q) ++ ownRules r m f (payload q))
+rules r m f q = headRules q ++ (formRules q ++ (entryRules r m f (payload q) ++ ownRules r m f (payload q)))
 
 abbrev pub passed : List ℕ → Verdict
 passed q = Pass (command q)

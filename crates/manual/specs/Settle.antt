@@ -12,7 +12,7 @@ use Rattle.card.specs.declared.Card.{Card}
 use Rattle.card.specs.Image.{encode, decode}
 use Rattle.card.specs.Valid.{isCard}
 use Rattle.manual.specs.declared.Command.{Command}
-use Rattle.manual.specs.declared.Matched.{Matched}
+use Rattle.manual.specs.Row.{Matched}
 use Rattle.manual.specs.declared.Verdict.{Verdict}
 use Rattle.manual.specs.declared.Verdict.the-variants.{Pass, Stop}
 use Rattle.manual.specs.declared.Outcome.{Outcome}

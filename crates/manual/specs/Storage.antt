@@ -10,9 +10,7 @@ use Rattle.card.specs.declared.Face.{Face}
 use Rattle.card.specs.declared.Block.{Block}
 use Rattle.card.specs.declared.Counters.{Counters}
 use Rattle.card.specs.Values.{heldBlock, heldIssuer, blockOf, withUser, withProtected, withCounters, withIssuer}
-use Rattle.manual.specs.declared.Needs.{Needs}
-use Rattle.manual.specs.declared.Matched.{Matched}
-use Rattle.manual.specs.Row.{Question, question, Row, stays}
+use Rattle.manual.specs.Row.{question, Row, stays}
 
 -- a field with held data, only if not empty
 abbrev pub heldField : ℕ → Block → List Tagged

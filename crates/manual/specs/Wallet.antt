@@ -9,8 +9,8 @@ use Rattle.fields.specs.Fields.{has, val, Tagged, fld}
 use Rattle.card.specs.declared.Face.{Face}
 use Rattle.card.specs.declared.Codes.{Codes}
 use Rattle.card.specs.Values.{u16, created, spent, purged, risen, heldKey, heldLast, keyOf, lastOf, withWallet, withKey, withCounters, withLast}
-use Rattle.manual.specs.declared.Needs.{Needs}
-use Rattle.manual.specs.declared.Matched.{Matched}
+use Rattle.manual.specs.declared.Signing.{Signing}
+use Rattle.manual.specs.declared.Signing.the-variants.{New, Again}
 use Rattle.manual.specs.Row.{Question, question, Row, stays}
 
 abbrev pub statusField : Face → Tagged
@@ -98,6 +98,10 @@ isNew p = has 0x50 p || has 0x51 p
 
 abbrev pub count : List ℕ → ℕ
 count p = length (val 0x50 p) / 32
+
+-- what it asks for
+unfoldable pub signing : List ℕ → Signing
+signing p = cond (isNew p) (New (length (val 0x50 p))) Again
 
 -- 1 to 10 hashes of 32 bytes
 abbrev pub hashesOk : ℕ → Bool

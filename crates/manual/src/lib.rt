@@ -27,6 +27,12 @@ pub enum Lc {
     Wrong,
 }
 
+// What SIGN asks for: new signatures, of a hash array of so many bytes, or the last ones again.
+pub enum Signing {
+    New(usize),
+    Again,
+}
+
 // The checks 1 to 12: the command, or the number of the first that fails and its status word.
 pub enum Verdict {
     Pass(Command),
@@ -42,14 +48,6 @@ pub struct Needs {
     pub loaded: bool,
     pub purged: bool,
     pub cvc: bool,
-}
-
-// How the codes of a request compare with those of the card: all that is ever seen of them.
-pub struct Matched {
-    pub pin1: bool,
-    pub pin2: bool,
-    pub new1: bool,
-    pub new2: bool,
 }
 
 // What a call returns: the number of 01's table, the reason (0: no check's number is told yet), the status word, the length written.

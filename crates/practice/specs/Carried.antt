@@ -1,16 +1,13 @@
--- A command whose checks 1 to 12 have passed: the card that it leaves when it is carried out, and what settle leaves by its answers. Assumes nothing.
+-- A command whose checks 1 to 12 have passed: what settle leaves by its answers. Assumes nothing.
 use Prim.Native.Nat.{ℕ}
 use mathlib.Core.List.{List}
 use mathlib.Core.Bool.{cond}
 use Rattle.card.specs.declared.Card.{Card}
 use Rattle.manual.specs.declared.Command.{Command}
-use Rattle.manual.specs.declared.Matched.{Matched}
-use Rattle.manual.specs.Row.{shaped}
+use Rattle.manual.specs.Row.{Matched, shaped}
 use Rattle.manual.specs.Commands.{row}
 use Rattle.manual.specs.Settle.{Settled, done, refused, lent, untouched}
-
-abbrev pub carriedCard : Command → Card → List ℕ → List ℕ → Card
-carriedCard k c p a = record { face = row k .next (c .face) p a; codes = row k .recode p (c .codes) }
+use Rattle.changes.specs.Carried.{carriedCard}
 
 -- number 4, then check 13, then the command
 unfoldable pub answeredIn : Command → Matched → Card → List ℕ → List ℕ → List ℕ → List ℕ → List ℕ → Settled

@@ -1,8 +1,7 @@
 // Ask and settle, 01 "Two calls": the practice card, and its C face.
-use card::Card;
-use card::Face;
+use card::Codes;
+use card::Front;
 use manual::Command;
-use manual::Matched;
 use manual::Outcome;
 use manual::Verdict;
 use wire::Check;
@@ -17,7 +16,10 @@ ghost use Rattle.manual.specs.Commands.{row};
 ghost use Rattle.manual.specs.Request.{payload};
 ghost use Rattle.manual.specs.Settle.{wordOf, refused, done, responseOf, over, outcome, settledBy, lent, settledOf, roomy, settled, matched, posedBy, askedOf, askedFor};
 ghost use Rattle.sheet.specs.Sheet.{personalised};
-ghost use Rattle.practice.specs.Carried.{carriedCard, answeredIn};
+ghost use Rattle.card.specs.Image.{decode};
+ghost use Rattle.card.specs.Values.{front, bare};
+ghost use Rattle.changes.specs.Carried.{carriedCard};
+ghost use Rattle.practice.specs.Carried.{answeredIn};
 
 // The numbers of 01's table.
 pub const NO_CARD: u8 = 1;
@@ -68,12 +70,12 @@ fn word_of(v: Verdict) -> u16
 }
 
 // A status word alone; the next image is the old one.
-fn refuse(card: Card, word: u16, response: &mut [u8], next: &mut [u8]) -> Outcome
-    requires { ⌜ (2048 ≤ length (now response)) × (4096 ≤ length (now next)) ⌝ }
-    ensures { λ r. ⌜ settledBy r (now (response .exit)) (now (next .exit)) ≡ lent (refused word (card .face)) card (now (response .entry)) (now (next .entry)) ⌝ }
+fn refuse(img: &[u8], word: u16, response: &mut [u8], next: &mut [u8]) -> Outcome
+    requires { ⌜ (2048 ≤ length (now response)) × (4096 ≤ length (now next)) × (length (now img) ≡ 2429) ⌝ }
+    ensures { λ r. ⌜ settledBy r (now (response .exit)) (now (next .exit)) ≡ lent (refused word (decode (now (img .entry)) .face)) (decode (now (img .entry))) (now (response .entry)) (now (next .entry)) ⌝ }
 {
     wire::put16(response, 0, word);
-    image::write(card, next);
+    wire::put_bytes(next, 0, img);
     Outcome {
         number: 0,
         reason: 0,
@@ -91,7 +93,7 @@ fn put_cid(out: &mut [u8], cid: [u8; 8]) -> usize
 // CID, the command's fields, the status word.
 fn respond(
     cmd: Command,
-    face: Face,
+    img: &[u8],
     word: u16,
     p: &[u8],
     draw: &[u8],
@@ -99,45 +101,33 @@ fn respond(
     out: &mut [u8],
 ) -> u32
     requires { ⌜ 2048 ≤ length (now out) ⌝ }
-    ensures { λ r. ⌜ (now (out .exit) ≡ over (responseOf (row cmd) word face (now (p .entry)) (now (draw .entry)) (now (answers .entry))) (now (out .entry))) × (r ≡ length (responseOf (row cmd) word face (now (p .entry)) (now (draw .entry)) (now (answers .entry)))) ⌝ }
+    ensures { λ r. ⌜ (now (out .exit) ≡ over (responseOf (row cmd) word (decode (now (img .entry)) .face) (now (p .entry)) (now (draw .entry)) (now (answers .entry))) (now (out .entry))) × (r ≡ length (responseOf (row cmd) word (decode (now (img .entry)) .face) (now (p .entry)) (now (draw .entry)) (now (answers .entry)))) ⌝ }
 {
-    let cid = face.fixed.cid;
+    let fixed = image::fixed(img);
+    let cid = fixed.cid;
     let a = put_cid(out, cid);
-    let b = tells::tell(cmd, face, p, draw, answers, out, a);
+    let b = tells::tell(cmd, img, p, draw, answers, out, a);
     let e = wire::put16(out, b, word);
     e as u32
 }
 
-// The card after: its face and its codes.
-fn card_after(cmd: Command, card: Card, p: &[u8], answers: &[u8]) -> Card
-    ensures { λ r. ⌜ r ≡ carriedCard cmd card (now (p .entry)) (now (answers .entry)) ⌝ }
-{
-    let old = card.face;
-    let codes = card.codes;
-    Card {
-        face: changes::next_face(cmd, old, p, answers),
-        codes: changes::recode(cmd, codes, p),
-    }
-}
-
 fn carry_out(
     cmd: Command,
-    m: Matched,
-    card: Card,
+    codes: Codes,
+    img: &[u8],
     p: &[u8],
     draw: &[u8],
     answers: &[u8],
     response: &mut [u8],
     next: &mut [u8],
 ) -> Outcome
-    requires { ⌜ (2048 ≤ length (now response)) × (4096 ≤ length (now next)) ⌝ }
-    ensures { λ r. ⌜ settledBy r (now (response .exit)) (now (next .exit)) ≡ lent (done (row cmd) m (card .face) (now (p .entry)) (now (draw .entry)) (now (answers .entry))) (carriedCard cmd card (now (p .entry)) (now (answers .entry))) (now (response .entry)) (now (next .entry)) ⌝ }
+    requires { ⌜ (2048 ≤ length (now response)) × (4096 ≤ length (now next)) × (length (now img) ≡ 2429) ⌝ }
+    ensures { λ r. ⌜ settledBy r (now (response .exit)) (now (next .exit)) ≡ lent (done (row cmd) (matched codes (now (p .entry))) (decode (now (img .entry)) .face) (now (p .entry)) (now (draw .entry)) (now (answers .entry))) (carriedCard cmd (decode (now (img .entry))) (now (p .entry)) (now (answers .entry))) (now (response .entry)) (now (next .entry)) ⌝ }
 {
-    let after = card_after(cmd, card, p, answers);
-    let word = manual::SW_DONE + changes::more(cmd, m);
-    let face = after.face;
-    let length = respond(cmd, face, word, p, draw, answers, response);
-    image::write(after, next);
+    changes::change(cmd, img, p, answers, next);
+    let word = manual::SW_DONE + changes::more(cmd, codes, p);
+    let after = wire::part(next, 0, card::IMAGE_SIZE);
+    let length = respond(cmd, after, word, p, draw, answers, response);
     Outcome {
         number: 0,
         reason: 0,
@@ -146,8 +136,8 @@ fn carry_out(
     }
 }
 
-fn has_answers(cmd: Command, face: Face, p: &[u8], draw: &[u8], answers: &[u8]) -> Check
-    ensures { λ r. ⌜ r ≡ verdict (shaped (row cmd .questions face (now (p .entry)) (now (draw .entry))) (now (answers .entry))) ⌝ }
+fn has_answers(cmd: Command, face: Front, p: &[u8], draw: &[u8], answers: &[u8]) -> Check
+    ensures { λ r. ⌜ r ≡ verdict (shaped (row cmd .questions (bare face) (now (p .entry)) (now (draw .entry))) (now (answers .entry))) ⌝ }
 {
     wire::checked(questions::answers_ok(cmd, face, p, draw, answers))
 }
@@ -161,47 +151,46 @@ fn has_confirmation(cmd: Command, answers: &[u8]) -> Check
 // Number 4, then check 13, then the command.
 fn answer(
     cmd: Command,
-    m: Matched,
-    card: Card,
+    codes: Codes,
+    face: Front,
+    img: &[u8],
     p: &[u8],
     draw: &[u8],
     answers: &[u8],
     response: &mut [u8],
     next: &mut [u8],
 ) -> Outcome
-    requires { ⌜ (2048 ≤ length (now response)) × (4096 ≤ length (now next)) ⌝ }
-    ensures { λ r. ⌜ settledBy r (now (response .exit)) (now (next .exit)) ≡ answeredIn cmd m card (now (p .entry)) (now (draw .entry)) (now (answers .entry)) (now (response .entry)) (now (next .entry)) ⌝ }
+    requires { ⌜ (2048 ≤ length (now response)) × (4096 ≤ length (now next)) × (length (now img) ≡ 2429) × (face ≡ front (decode (now img) .face)) ⌝ }
+    ensures { λ r. ⌜ settledBy r (now (response .exit)) (now (next .exit)) ≡ answeredIn cmd (matched codes (now (p .entry))) (decode (now (img .entry))) (now (p .entry)) (now (draw .entry)) (now (answers .entry)) (now (response .entry)) (now (next .entry)) ⌝ }
 {
-    let face = card.face;
     let Check::Fine = has_answers(cmd, face, p, draw, answers) else {
         return only(NO_ANSWERS);
     };
     let Check::Fine = has_confirmation(cmd, answers) else {
-        return refuse(card, manual::SW_UNCONFIRMED, response, next);
+        return refuse(img, manual::SW_UNCONFIRMED, response, next);
     };
-    carry_out(cmd, m, card, p, draw, answers, response, next)
+    carry_out(cmd, codes, img, p, draw, answers, response, next)
 }
 
 fn settle_card(
-    card: Card,
+    img: &[u8],
     request: &[u8],
     draw: &[u8],
     answers: &[u8],
     response: &mut [u8],
     next: &mut [u8],
 ) -> Outcome
-    requires { ⌜ (2048 ≤ length (now response)) × (4096 ≤ length (now next)) ⌝ }
-    ensures { λ r. ⌜ settledBy r (now (response .exit)) (now (next .exit)) ≡ settledOf card (now (request .entry)) (now (draw .entry)) (now (answers .entry)) (now (response .entry)) (now (next .entry)) ⌝ }
+    requires { ⌜ (2048 ≤ length (now response)) × (4096 ≤ length (now next)) × (length (now img) ≡ 2429) ⌝ }
+    ensures { λ r. ⌜ settledBy r (now (response .exit)) (now (next .exit)) ≡ settledOf (decode (now (img .entry))) (now (request .entry)) (now (draw .entry)) (now (answers .entry)) (now (response .entry)) (now (next .entry)) ⌝ }
 {
-    let face = card.face;
-    let codes = card.codes;
+    let face = image::front(img);
+    let codes = image::codes(img);
     let p = request::payload(request);
-    let m = request::compare(codes, p);
-    let v = gate::judge(m, face, request);
+    let v = gate::judge(codes, face, request);
     let Verdict::Pass(cmd) = v else {
-        return refuse(card, word_of(v), response, next);
+        return refuse(img, word_of(v), response, next);
     };
-    answer(cmd, m, card, p, draw, answers, response, next)
+    answer(cmd, codes, face, img, p, draw, answers, response, next)
 }
 
 // Takes an image, a request, a draw and the answers; writes the response and the next image.
@@ -224,17 +213,17 @@ pub fn settle(
     let Check::Fine = is_draw(draw) else {
         return only(NO_DRAW);
     };
-    settle_card(image::read(image), request, draw, answers, response, next)
+    settle_card(image, request, draw, answers, response, next)
 }
 
-fn ask_card(card: Card, request: &[u8], draw: &[u8], questions: &mut [u8]) -> Outcome
+fn ask_card(img: &[u8], request: &[u8], draw: &[u8], questions: &mut [u8]) -> Outcome
     requires { ⌜ 2048 ≤ length (now questions) ⌝ }
-    ensures { λ r. ⌜ posedBy r (now (questions .exit)) ≡ askedOf (matched (card .codes) (payload (now (request .entry)))) (card .face) (now (request .entry)) (now (draw .entry)) (now (questions .entry)) ⌝ }
+    ensures { λ r. ⌜ posedBy r (now (questions .exit)) ≡ askedOf (matched (decode (now (img .entry)) .codes) (payload (now (request .entry)))) (decode (now (img .entry)) .face) (now (request .entry)) (now (draw .entry)) (now (questions .entry)) ⌝ }
 {
-    let face = card.face;
-    let codes = card.codes;
+    let face = image::front(img);
+    let codes = image::codes(img);
     let p = request::payload(request);
-    let v = gate::judge(request::compare(codes, p), face, request);
+    let v = gate::judge(codes, face, request);
     let Verdict::Pass(cmd) = v else {
         return Outcome {
             number: 0,
@@ -265,7 +254,7 @@ pub fn ask(image: &[u8], request: &[u8], draw: &[u8], questions: &mut [u8]) -> O
     let Check::Fine = is_draw(draw) else {
         return only(NO_DRAW);
     };
-    ask_card(image::read(image), request, draw, questions)
+    ask_card(image, request, draw, questions)
 }
 
 // The C face: the same calls under plain names.

@@ -10,8 +10,9 @@ use lib.ListN.{length, take, drop, length-append, length-take}
 use lib.Seq.{drop-drop}
 use lib.Dec.{leb, eqb}
 use borrow.Author.Tests.{eq-eqb, ne-eqb, eqb-true, leb-true}
-use Rattle.wire.specs.Wire.{Wrote, Wrotes, joined, part, alike}
-use Rattle.wire.proofs.Laws.{wrote-none, wrote-more, wrote-append, all-run, front, joined-append, part-plain, both-true, by-cases}
+use Rattle.wire.specs.Wire.{Wrote, Wrotes, joined, part, grab, alike}
+use Rattle.wire.proofs.Laws.{wrote-none, wrote-more, wrote-append, all-run, front, joined-append, both-true, by-cases}
+use Rattle.wire.proofs.Parts.{grab-plain}
 use Rattle.fields.specs.Fields.{has, val}
 use Rattle.card.specs.declared.Face.{Face}
 use Rattle.card.specs.Values.{u16, keyOf}
@@ -155,17 +156,17 @@ posed x e h = let s = x .small e in front (all-run (x .list)) (omega arith)
 abbrev pub Left : (number curve n i : ℕ) (h out₀ out : List ℕ) (at : ℕ) → Type 0
 Left number curve n i h out₀ out at = (d : List ℕ) (r : ℕ) → Wrotes out at (eachAsked (hashQuestions number curve (n - i) (drop (i * 32) h))) d r → Wrotes out₀ 0 (eachAsked (hashQuestions number curve n h)) d r
 
-split : (number curve n i : ℕ) (h : List ℕ) → i < n → n ≡ length h / 32 → hashQuestions number curve (n - i) (drop (i * 32) h) ≡ question 2 number curve (part h (i * 32) 32 ∷ []) ∷ hashQuestions number curve (n - (i + 1)) (drop ((i + 1) * 32) h)
+split : (number curve n i : ℕ) (h : List ℕ) → i < n → n ≡ length h / 32 → hashQuestions number curve (n - i) (drop (i * 32) h) ≡ question 2 number curve (grab 32 (i * 32) h ∷ []) ∷ hashQuestions number curve (n - (i + 1)) (drop ((i + 1) * 32) h)
 unfolding hashQuestions
 split number curve n i h k e =
     let z : n - i ≡ suc (n - (i + 1)) = omega arith in
     let y : i * 32 + 32 ≡ (i + 1) * 32 = omega arith in
-    rw (z, part-plain h (i * 32) 32 (omega arith), drop-drop 32 (i * 32) h, y)
+    rw (z, grab-plain h (i * 32) 32 (omega arith), drop-drop 32 (i * 32) h, y)
 
-pub turn : (number curve n i : ℕ) (h : List ℕ) {out₀ out : List ℕ} {at : ℕ} {out′ : List ℕ} {at′ : ℕ} → i < n → n ≡ length h / 32 → Left number curve n i h out₀ out at → Wrotes out at (eachAsked (question 2 number curve (part h (i * 32) 32 ∷ []) ∷ [])) out′ at′ → Left number curve n (i + 1) h out₀ out′ at′
+pub turn : (number curve n i : ℕ) (h : List ℕ) {out₀ out : List ℕ} {at : ℕ} {out′ : List ℕ} {at′ : ℕ} → i < n → n ≡ length h / 32 → Left number curve n i h out₀ out at → Wrotes out at (eachAsked (question 2 number curve (grab 32 (i * 32) h ∷ []) ∷ [])) out′ at′ → Left number curve n (i + 1) h out₀ out′ at′
 turn number curve n i h k e f w d r g =
     f d r (all-as (ap eachAsked (sym (split number curve n i h k e)))
-    (ask-more (question 2 number curve (part h (i * 32) 32 ∷ [])) (hashQuestions number curve (n - (i + 1)) (drop ((i + 1) * 32) h)) w g))
+    (ask-more (question 2 number curve (grab 32 (i * 32) h ∷ [])) (hashQuestions number curve (n - (i + 1)) (drop ((i + 1) * 32) h)) w g))
 
 pub left-none : (number curve n i : ℕ) (h : List ℕ) {out₀ out : List ℕ} {at : ℕ} → n ≤ i → Left number curve n i h out₀ out at → Wrotes out₀ 0 (eachAsked (hashQuestions number curve n h)) out at
 unfolding hashQuestions eachAsked

@@ -1,7 +1,8 @@
 // The columns of the manual's rows about the crypto provider: the questions, the shape of their answers, check 13.
-use card::Face;
+use card::Front;
 use card::Key;
 use manual::Command;
+use manual::Signing;
 ghost use mathlib.Core.Path.{_≡_};
 ghost use Prim.Native.Nat.{ℕ, _+_, _/_, _≤_};
 ghost use mathlib.Core.Bool.{true, cond, not, _&&_, _||_};
@@ -10,7 +11,8 @@ ghost use lib.ListN.{length, getD};
 ghost use lib.Dec.{eqb, leb};
 ghost use Rattle.wire.specs.Wire.{Wrote, Wrotes};
 ghost use Rattle.fields.specs.Fields.{val};
-ghost use Rattle.card.specs.Values.{u16, keyOf};
+ghost use Rattle.card.specs.declared.Face.{Face};
+ghost use Rattle.card.specs.Values.{u16, keyOf, bare};
 ghost use Rattle.manual.specs.Row.{question, headBytes, eachAsked, keyLength, shaped};
 ghost use Rattle.manual.specs.Commands.{row};
 ghost use Rattle.manual.specs.Wallet.{createWallet, sign, signFields, hashQuestions};
@@ -30,8 +32,8 @@ pub const SIGN_BY_CARD: u8 = 4;
 pub const SIGNED_BY_ISSUER: u8 = 5;
 
 // THE QUESTIONS, from the front of the buffer.
-pub fn pose(cmd: Command, face: Face, p: &[u8], draw: &[u8], out: &mut [u8]) -> usize
-    ensures { λ r. ⌜ Asking (row cmd .fields face (now (p .entry))) (now (out .entry)) (row cmd .questions face (now (p .entry)) (now (draw .entry))) (now (out .exit)) r ⌝ }
+pub fn pose(cmd: Command, face: Front, p: &[u8], draw: &[u8], out: &mut [u8]) -> usize
+    ensures { λ r. ⌜ Asking (row cmd .fields (bare face) (now (p .entry))) (now (out .entry)) (row cmd .questions (bare face) (now (p .entry)) (now (draw .entry))) (now (out .exit)) r ⌝ }
 {
     match cmd {
         Command::ReadCard => 0,
@@ -90,11 +92,19 @@ fn put_two(out: &mut [u8], kind: u8, number: u16, curve: u8, challenge: &[u8], s
 }
 
 // F8: the number about to begin.
-fn pose_key(face: Face, out: &mut [u8]) -> usize
-    ensures { λ r. ⌜ ((p d : List ℕ) → Asking true (now (out .entry)) (createWallet .questions face p d) (now (out .exit)) r) ⌝ }
+fn pose_key(face: Front, out: &mut [u8]) -> usize
+    ensures { λ r. ⌜ ((p d : List ℕ) → Asking true (now (out .entry)) (createWallet .questions (bare face) p d) (now (out .exit)) r) ⌝ }
 {
     let number = std::num::wrapping_add_u16(face.wallet.number, 1);
     put_head(out, 0, MAKE_KEY, number, face.fixed.curve, 0)
+}
+
+// The hash is taken by value, so that its 32 bytes are moved at once.
+fn put_hash(out: &mut [u8], at: usize, number: u16, curve: u8, hash: [u8; 32]) -> usize
+    ensures { λ r. ⌜ (Wrotes (now (out .entry)) at (eachAsked (question 2 number curve (hash ∷ []) ∷ [])) (now (out .exit)) r) × (length hash ≡ 32) ⌝ }
+{
+    let a = put_head(out, at, SIGN_HASH, number, curve, 32);
+    wire::give32(out, a, hash)
 }
 
 // A question for each hash, in order.
@@ -105,32 +115,25 @@ fn pose_hashes(number: u16, curve: u8, hashes: &[u8], out: &mut [u8]) -> usize
     let mut at = 0;
     let mut i = 0;
     while i < n {
-        at = put_one(
-            out,
-            at,
-            SIGN_HASH,
-            number,
-            curve,
-            wire::part(hashes, i * 32, 32),
-        );
+        at = put_hash(out, at, number, curve, wire::take32(hashes, i * 32));
         i += 1;
     }
     at
 }
 
-fn pose_sign(face: Face, p: &[u8], out: &mut [u8]) -> usize
-    ensures { λ r. ⌜ ((d : List ℕ) → Asking (signFields (now (p .entry))) (now (out .entry)) (sign .questions face (now (p .entry)) d) (now (out .exit)) r) ⌝ }
+fn pose_sign(face: Front, p: &[u8], out: &mut [u8]) -> usize
+    ensures { λ r. ⌜ ((d : List ℕ) → Asking (signFields (now (p .entry))) (now (out .entry)) (sign .questions (bare face) (now (p .entry)) d) (now (out .exit)) r) ⌝ }
 {
-    if request::is_new(p) {
-        let hashes = fields::value(p, 0x50);
-        return pose_hashes(face.wallet.number, face.fixed.curve, hashes, out);
-    }
-    0
+    let Signing::New(_) = request::signing(p) else {
+        return 0;
+    };
+    let hashes = fields::value(p, 0x50);
+    pose_hashes(face.wallet.number, face.fixed.curve, hashes, out)
 }
 
 // F3: Challenge and Salt by the card key.
-fn pose_verify(face: Face, p: &[u8], draw: &[u8], out: &mut [u8]) -> usize
-    ensures { λ r. ⌜ Asking (verifyCard .fields face (now (p .entry))) (now (out .entry)) (verifyCard .questions face (now (p .entry)) (now (draw .entry))) (now (out .exit)) r ⌝ }
+fn pose_verify(face: Front, p: &[u8], draw: &[u8], out: &mut [u8]) -> usize
+    ensures { λ r. ⌜ Asking (verifyCard .fields (bare face) (now (p .entry))) (now (out .entry)) (verifyCard .questions (bare face) (now (p .entry)) (now (draw .entry))) (now (out .exit)) r ⌝ }
 {
     put_two(
         out,
@@ -143,8 +146,8 @@ fn pose_verify(face: Face, p: &[u8], draw: &[u8], out: &mut [u8]) -> usize
 }
 
 // F4: the counter's two bytes, after it rose.
-fn pose_validate(face: Face, out: &mut [u8]) -> usize
-    ensures { λ r. ⌜ ((p d : List ℕ) → Asking true (now (out .entry)) (validateCard .questions face p d) (now (out .exit)) r) ⌝ }
+fn pose_validate(face: Front, out: &mut [u8]) -> usize
+    ensures { λ r. ⌜ ((p d : List ℕ) → Asking true (now (out .entry)) (validateCard .questions (bare face) p d) (now (out .exit)) r) ⌝ }
 {
     let n = std::num::wrapping_add_u16(face.counters.validations, 1);
     let risen = [(n / 256) as u8, (n % 256) as u8];
@@ -159,8 +162,8 @@ fn pose_validate(face: Face, out: &mut [u8]) -> usize
 }
 
 // F9: Challenge and Salt by the wallet key; with tag 14 also the key by the card key.
-fn pose_check(face: Face, p: &[u8], draw: &[u8], out: &mut [u8]) -> usize
-    ensures { λ r. ⌜ Asking (checkWallet .fields face (now (p .entry))) (now (out .entry)) (checkWallet .questions face (now (p .entry)) (now (draw .entry))) (now (out .exit)) r ⌝ }
+fn pose_check(face: Front, p: &[u8], draw: &[u8], out: &mut [u8]) -> usize
+    ensures { λ r. ⌜ Asking (checkWallet .fields (bare face) (now (p .entry))) (now (out .entry)) (checkWallet .questions (bare face) (now (p .entry)) (now (draw .entry))) (now (out .exit)) r ⌝ }
 {
     let challenge = fields::value(p, 0x16);
     let salt = wire::part(draw, 0, 16);
@@ -179,8 +182,8 @@ fn pose_check(face: Face, p: &[u8], draw: &[u8], out: &mut [u8]) -> usize
 }
 
 // The key, and what follows it unless tag 14 is empty.
-fn pose_key_check(face: Face, p: &[u8], draw: &[u8], out: &mut [u8], at: usize) -> usize
-    ensures { λ r. ⌜ (Wrotes (now (out .entry)) at (eachAsked (question 4 (face .wallet .number) (face .fixed .curve) (keyMessage face (now (p .entry)) (now (draw .entry))) ∷ [])) (now (out .exit)) r) × (length (keyOf (face .key)) ≤ 65) ⌝ }
+fn pose_key_check(face: Front, p: &[u8], draw: &[u8], out: &mut [u8], at: usize) -> usize
+    ensures { λ r. ⌜ (Wrotes (now (out .entry)) at (eachAsked (question 4 (face .wallet .number) (face .fixed .curve) (keyMessage (bare face) (now (p .entry)) (now (draw .entry))) ∷ [])) (now (out .exit)) r) × (length (keyOf (face .key)) ≤ 65) ⌝ }
 {
     let key = face.key;
     let challenge = fields::value(p, 0x14);
@@ -255,8 +258,8 @@ fn message_size(replay: u8, p: &[u8]) -> u16
     in_two(a.len() % 65536 + 8 + b.len() % 65536 + c.len() % 65536)
 }
 
-fn put_message(face: Face, p: &[u8], out: &mut [u8], at: usize) -> usize
-    ensures { λ r. ⌜ (Wrotes (now (out .entry)) at (issuerMessage face (now (p .entry))) (now (out .exit)) r) × (length (face .fixed .cid) ≡ 8) ⌝ }
+fn put_message(face: Front, p: &[u8], out: &mut [u8], at: usize) -> usize
+    ensures { λ r. ⌜ (Wrotes (now (out .entry)) at (issuerMessage (bare face) (now (p .entry))) (now (out .exit)) r) × (length (face .fixed .cid) ≡ 8) ⌝ }
 {
     let a = wire::put_bytes(out, at, fields::value(p, 0x33));
     let cid = face.fixed.cid;
@@ -265,8 +268,8 @@ fn put_message(face: Face, p: &[u8], out: &mut [u8], at: usize) -> usize
     wire::put_bytes(out, c, counter_bytes(face.flags.replay, p))
 }
 
-fn pose_issuer(face: Face, p: &[u8], out: &mut [u8]) -> usize
-    ensures { λ r. ⌜ ((d : List ℕ) → Asking (issuerFields face (now (p .entry))) (now (out .entry)) (writeIssuerData .questions face (now (p .entry)) d) (now (out .exit)) r) ⌝ }
+fn pose_issuer(face: Front, p: &[u8], out: &mut [u8]) -> usize
+    ensures { λ r. ⌜ ((d : List ℕ) → Asking (issuerFields (bare face) (now (p .entry))) (now (out .entry)) (writeIssuerData .questions (bare face) (now (p .entry)) d) (now (out .exit)) r) ⌝ }
 {
     let n = message_size(face.flags.replay, p);
     let a = put_head(
@@ -281,8 +284,8 @@ fn pose_issuer(face: Face, p: &[u8], out: &mut [u8]) -> usize
 }
 
 // THE ANSWERS' SHAPE, number 4.
-pub fn answers_ok(cmd: Command, face: Face, p: &[u8], draw: &[u8], answers: &[u8]) -> bool
-    ensures { λ r. ⌜ r ≡ shaped (row cmd .questions face (now (p .entry)) (now (draw .entry))) (now (answers .entry)) ⌝ }
+pub fn answers_ok(cmd: Command, face: Front, p: &[u8], draw: &[u8], answers: &[u8]) -> bool
+    ensures { λ r. ⌜ r ≡ shaped (row cmd .questions (bare face) (now (p .entry)) (now (draw .entry))) (now (answers .entry)) ⌝ }
 {
     match cmd {
         Command::ReadCard => no_answers(answers),
@@ -337,14 +340,13 @@ fn yes_or_no(a: &[u8]) -> bool
     wire::both(a.len() == 1, wire::get8(a, 0) <= 1)
 }
 
-fn sign_answers(face: Face, p: &[u8], a: &[u8]) -> bool
-    ensures { λ r. ⌜ ((d : List ℕ) → r ≡ shaped (sign .questions face (now (p .entry)) d) (now (a .entry))) ⌝ }
+fn sign_answers(face: Front, p: &[u8], a: &[u8]) -> bool
+    ensures { λ r. ⌜ ((d : List ℕ) → r ≡ shaped (sign .questions (bare face) (now (p .entry)) d) (now (a .entry))) ⌝ }
 {
-    if request::is_new(p) {
-        let whole = a.len() % 64 == 0;
-        return wire::both(whole, a.len() / 64 == request::hash_count(p));
-    }
-    no_answers(a)
+    let Signing::New(n) = request::signing(p) else {
+        return no_answers(a);
+    };
+    wire::both(a.len() % 64 == 0, a.len() / 64 == n / 32)
 }
 
 // CHECK 13.

@@ -1,16 +1,17 @@
-// What a request says: where its payload stands, its command, how its codes compare with the card's, and the few values that several columns read.
-use card::Codes;
+// What a request says: where its payload stands, its command, and the few values that several columns read.
+use fields::Found;
 use manual::Command;
 use manual::Ins;
 use manual::Lc;
-use manual::Matched;
+use manual::Signing;
 ghost use mathlib.Core.Path.{_≡_};
-ghost use Prim.Native.Nat.{_<_};
-ghost use lib.ListN.{getD, drop};
+ghost use mathlib.Core.Bool.{cond};
+ghost use lib.ListN.{getD};
+ghost use Rattle.fields.specs.Fields.{has};
 ghost use Rattle.manual.specs.Request.{lcOf, insOf, payload};
-ghost use Rattle.manual.specs.Wallet.{isNew, count};
+ghost use Rattle.manual.specs.Wallet.{signing};
+ghost use Rattle.manual.specs.declared.Signing.the-variants.{New, Again};
 ghost use Rattle.manual.specs.Storage.{sentCounter};
-ghost use Rattle.manual.specs.Settle.{matched};
 
 // Where the payload begins: after an Lc of one byte or of three, and the request ends with it.
 pub fn lc_of(q: &[u8]) -> Lc
@@ -39,38 +40,14 @@ pub fn lc_of(q: &[u8]) -> Lc
     Lc::Wrong
 }
 
-// What follows a place: nothing past the end.
-fn rest(q: &[u8], b: usize) -> &[u8]
-    ensures { λ r. ⌜ now r ≡ drop b (now (q .entry)) ⌝ }
-{
-    if b <= q.len() {
-        return &q[b..];
-    }
-    &q[..0]
-}
-
 // The payload, as a part of the request.
 pub fn payload(q: &[u8]) -> &[u8]
     ensures { λ r. ⌜ now r ≡ payload (now (q .entry)) ⌝ }
 {
     let Lc::Body(b) = lc_of(q) else {
-        return rest(q, 0);
+        return wire::rest(q, 0);
     };
-    rest(q, b)
-}
-
-// How the codes of a payload compare with those of the card.
-pub fn compare(codes: Codes, p: &[u8]) -> Matched
-    ensures { λ r. ⌜ r ≡ matched codes (now (p .entry)) ⌝ }
-{
-    let pin1 = codes.pin1;
-    let pin2 = codes.pin2;
-    Matched {
-        pin1: fields::holds(p, 0x10, &pin1),
-        pin2: fields::holds(p, 0x11, &pin2),
-        new1: fields::holds(p, 0x12, &pin1),
-        new2: fields::holds(p, 0x13, &pin2),
-    }
+    wire::rest(q, b)
 }
 
 fn ins_of(ins: u8) -> Ins
@@ -100,19 +77,29 @@ pub fn command(q: &[u8]) -> Ins
     ins_of(wire::get8(q, 1))
 }
 
-// Whether SIGN asks for new signatures.
-pub fn is_new(p: &[u8]) -> bool
-    ensures { λ r. ⌜ r ≡ isNew (now (p .entry)) ⌝ }
+// What a SIGN asks for.
+pub fn signing(p: &[u8]) -> Signing
+    ensures { λ r. ⌜ r ≡ signing (now (p .entry)) ⌝ }
 {
-    wire::either(fields::has(p, 0x50), fields::has(p, 0x51))
+    let Found::At {
+        start: _,
+        len,
+        next: _,
+    } = fields::find_from(p, 0, 0x50)
+    else {
+        return without_hashes(p);
+    };
+    Signing::New(len)
 }
 
-// How many hashes a SIGN has.
-pub fn hash_count(p: &[u8]) -> usize
-    ensures { λ r. ⌜ (r ≡ count (now (p .entry))) × (r < 1152921504606846976) ⌝ }
+// No hash array: of no bytes where there is a hash size.
+fn without_hashes(p: &[u8]) -> Signing
+    ensures { λ r. ⌜ r ≡ cond (has 0x51 (now (p .entry))) (New 0) Again ⌝ }
 {
-    let hashes = fields::value(p, 0x50);
-    hashes.len() / 32
+    if fields::has(p, 0x51) {
+        return Signing::New(0);
+    }
+    Signing::Again
 }
 
 // The counter (35) that a note is sent with.

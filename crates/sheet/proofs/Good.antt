@@ -16,12 +16,12 @@ use Rattle.wire.proofs.Parts.{length-pad}
 use Rattle.text.specs.Text.{allOf, unhex, plainDecimal, numberOf}
 use Rattle.text.specs.Lines.{lengthTo, headTo, tailAfter, startOf, fromLine, lineOf, ended}
 use Rattle.text.proofs.LineLaws.{split-first, ended-within, next-is-tail}
-use Rattle.card.specs.Values.{fresh}
 use Rattle.card.specs.Image.{encode}
 use Rattle.card.specs.Valid.{curveKnown, okFlags, isCard}
 use Rattle.image.proofs.Fresh.{fresh-is-card}
 use Rattle.sheet.specs.Written.{textFrom, valuesFrom}
-use Rattle.sheet.proofs.Laws.{never, alike-same}
+use Rattle.wire.proofs.Laws.{alike-same}
+use Rattle.sheet.proofs.Laws.{never}
 use Rattle.sheet.specs.Sheet.{isHexOf, isCvc, curveOf, isCurve, countOf, maxOf, isMax, flagOf, isFlag, Row, rows, noRow, rowOf, goodRow, goodLine, badFrom, firstBad, valueOf, sheetCodes, sheetFixed, sheetFlags, sheetCard}
 
 -- a walk that finds no bad line passed good ones

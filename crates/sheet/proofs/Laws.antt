@@ -3,33 +3,20 @@ use Prim.Native.Nat.{ℕ, zero, suc, _+_, _-_, _≤_, _<_}
 use native.Mathlib.Omega.{arith}
 use native.Mathlib.Numerals.{add-one}
 use native.Mathlib.Decide.{decLt}
-use mathlib.Core.Path.{_≡_, refl, sym, ap, ap₂, _∙_}
-use mathlib.Core.List.{List, [], _∷_, _++_}
+use mathlib.Core.Path.{_≡_, refl, ap, _∙_}
+use mathlib.Core.List.{List, [], _++_}
 use mathlib.Core.Bool.{Bool, true, false, cond, _&&_}
-use lib.ListN.{length, drop, getD, List·getD-eq-default}
-use lib.Dec.{ltb, eqb}
-use borrow.Author.Tests.{lt-ltb, le-ltb, eq-eqb, ne-eqb, eqb-true}
+use lib.ListN.{length, drop, List·getD-eq-default}
+use lib.Dec.{ltb}
+use borrow.Author.Tests.{lt-ltb, le-ltb, eq-eqb, ne-eqb}
 use Rattle.wire.specs.Wire.{alike, Wrote}
-use Rattle.wire.proofs.Laws.{runs, front, both-true}
+use Rattle.wire.proofs.Laws.{runs, front}
 use Rattle.card.specs.Image.{encode}
 use Rattle.text.specs.Lines.{startOf, fromLine}
-use Rattle.sheet.specs.Sheet.{Row, rows, noRow, rowOf, goodRow, goodLine, badFrom, firstBad, sheetCard, Outcome, personalised}
+use Rattle.sheet.specs.Sheet.{rows, noRow, rowOf, goodRow, goodLine, badFrom, firstBad, sheetCard, personalised}
 
 pub never : false ≡ true → ⊥
 never q = let z : _≡_ {A = ℕ} 0 1 = cc in omega arith
-
--- COMPARISON: what is alike is the same
-pub alike-self : (l : List ℕ) → alike l l ≡ true
-unfolding alike
-alike-self [] = refl
-alike-self (x ∷ l) = rw (eq-eqb x x refl) (alike-self l)
-
-pub alike-same : (a b : List ℕ) → alike a b ≡ true → a ≡ b
-unfolding alike
-alike-same [] [] e = refl
-alike-same [] (y ∷ b) e = absurd (never e)
-alike-same (x ∷ a) [] e = absurd (never e)
-alike-same (x ∷ a) (y ∷ b) e = let p = both-true (eqb x y) (alike a b) e in ap₂ _∷_ (eqb-true x y (p .0)) (alike-same a b (p .1))
 
 -- THE WALK
 module _ (k : ℕ) (s : List ℕ) (h : 1 ≤ k) (h′ : k ≤ 13) where

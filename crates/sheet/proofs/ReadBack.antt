@@ -2,26 +2,23 @@
 use Prim.Native.Nat.{ℕ, zero, suc, _+_, _*_, _≤_, _<_}
 use native.Mathlib.Omega.{arith}
 use native.Mathlib.Numerals.{add-one}
-use mathlib.Core.Path.{_≡_, refl, sym, ap, _∙_}
-use mathlib.Core.Bool.{Bool, true, false, cond, _&&_}
+use mathlib.Core.Path.{_≡_, refl, ap, _∙_}
+use mathlib.Core.Bool.{Bool, true, false, cond}
 use mathlib.Core.List.{List, [], _∷_, _++_}
 use lib.ListN.{length, getD}
-use lib.Dec.{eqb, ltb}
+use lib.Dec.{eqb}
 use borrow.Author.Tests.{le-leb, le-ltb, eq-eqb}
 use Rattle.wire.specs.Wire.{alike, pad}
 use Rattle.wire.proofs.Parts.{Bytes, pad-whole}
-use Rattle.text.specs.Text.{ascii, allOf, hexValue, isHexDigit, isHex, unhex, hexOf, isDigit, isDigits, decimalFrom, decimal, plainDecimal, fitting, numberOf, decimalOf}
-use Rattle.text.specs.Lines.{headTo, tailAfter, startOf, fromLine, lineOf, ended}
+use Rattle.text.specs.Text.{ascii, allOf, hexValue, isHexDigit, unhex, hexOf, isDigit, isDigits, fitting, numberOf, decimalOf}
+use Rattle.text.specs.Lines.{startOf, fromLine, lineOf}
 use Rattle.text.proofs.Laws.{all-append, length-hexOf, unhex-hexOf, isHex-hexOf, isDigits-decimalOf, plainDecimal-decimalOf, decimal-decimalOf}
 use Rattle.text.proofs.LineLaws.{other, all-other, head-past, tail-past, ended-past, next-from, none-left}
-use Rattle.card.specs.declared.Codes.{Codes}
-use Rattle.card.specs.declared.Fixed.{Fixed}
-use Rattle.card.specs.declared.Flags.{Flags}
 use Rattle.card.specs.declared.Card.{Card}
 use Rattle.card.specs.Values.{fresh}
 use Rattle.sheet.specs.Sheet.{isHexOf, isCvc, curveOf, isCurve, countOf, maxOf, isMax, flagOf, isFlag, rows, rowOf, goodRow, goodLine, badFrom, firstBad, valueOf, sheetCodes, sheetFixed, sheetFlags, sheetCard}
-use Rattle.sheet.proofs.Laws.{alike-self}
-use Rattle.sheet.specs.Written.{textFrom, curveName, flagText, flagValues, values, sheetText, FixedInRange, CodesInRange, FlagsInRange, InRange}
+use Rattle.wire.proofs.Laws.{alike-self}
+use Rattle.sheet.specs.Written.{textFrom, curveName, flagText, flagValues, values, sheetText, InRange}
 
 -- A VALUE ON LINE k: good there, and it breaks no line; the line's name has no tab in it
 record Line (k : ℕ) (v : List ℕ) : Type 0 where

@@ -1,7 +1,7 @@
 -- The personalisation sheet, 01 "The personalisation sheet": its lines, the first bad one, and the card that it describes. Every definition is total.
 -- Assumes nothing.
 use Prim.Native.Nat.{ℕ, zero, suc}
-use mathlib.Core.Bool.{Bool, true, false, cond, _&&_}
+use mathlib.Core.Bool.{Bool, false, cond, _&&_}
 use mathlib.Core.List.{List, [], _∷_, _++_}
 use lib.ListN.{length, drop, getD}
 use lib.Dec.{leb, ltb, eqb}

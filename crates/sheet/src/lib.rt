@@ -8,7 +8,6 @@ use text::Number;
 use text::lines;
 ghost use mathlib.Core.Path.{_≡_};
 ghost use mathlib.Core.Bool.{_&&_, cond};
-ghost use lib.ListN.{length};
 ghost use lib.Dec.{ltb};
 ghost use Rattle.wire.specs.Wire.{alike, pad};
 ghost use Rattle.text.specs.Text.{unhex};
@@ -145,7 +144,7 @@ pub fn first_bad(sheet: &[u8]) -> u32
         if LINES < line {
             break after_last(line, at, sheet.len());
         }
-        if !good_line(line, lines::rest(sheet, at)) {
+        if !good_line(line, wire::rest(sheet, at)) {
             break line;
         }
         at = lines::next_line(sheet, at);

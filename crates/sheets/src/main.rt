@@ -73,7 +73,7 @@ fn run_case(case: &[u8]) {
 fn run_all(cases: &[u8]) {
     let mut at = 0;
     while at < cases.len() {
-        run_case(lines::head_to(lines::rest(cases, at), lines::LINE_FEED));
+        run_case(lines::head_to(wire::rest(cases, at), lines::LINE_FEED));
         at = lines::next_line(cases, at);
     }
 }

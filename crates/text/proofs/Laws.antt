@@ -5,11 +5,11 @@ use native.Mathlib.Numerals.{add-one}
 use native.Mathlib.Decide.{decLt}
 use mathlib.Core.Path.{_≡_, refl, sym, ap, ap₂, _∙_}
 use mathlib.Core.List.{List, [], _∷_, _++_}
-use mathlib.Core.Bool.{Bool, true, false, cond, not, _&&_, _||_}
-use lib.ListN.{length, take, drop, getD, set, length-append, drop-of-length-le, List·getD-append}
+use mathlib.Core.Bool.{Bool, true, false, cond, _&&_, _||_}
+use lib.ListN.{length, drop, getD, set, length-append, drop-of-length-le, List·getD-append}
 use lib.Seq.{drop-cons, paste, paste-suc}
-use lib.Dec.{leb, ltb, eqb}
-use borrow.Author.Tests.{lt-ltb, le-ltb, le-leb, lt-leb, eq-eqb, ne-eqb}
+use lib.Dec.{ltb, eqb}
+use borrow.Author.Tests.{lt-ltb, le-ltb, le-leb, lt-leb, ne-eqb}
 use Rattle.wire.proofs.Parts.{Bytes}
 use Rattle.text.specs.Text.{allOf, hexValue, isHexDigit, isHex, pairValue, unhex, hexDigit, hexOf, isDigit, isDigits, decimalFrom, decimal, plainDecimal, digitsOf, decimalOf}
 

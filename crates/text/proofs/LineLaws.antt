@@ -2,16 +2,16 @@
 use Prim.Native.Nat.{ℕ, zero, suc, _+_, _-_, _≤_, _<_, max}
 use native.Mathlib.Omega.{arith}
 use native.Mathlib.Numerals.{add-one}
-use mathlib.Core.Path.{_≡_, refl, sym, ap, ap₂, _∙_}
+use mathlib.Core.Path.{_≡_, refl, sym, ap, _∙_}
 use mathlib.Core.List.{List, [], _∷_, _++_}
-use mathlib.Core.Bool.{Bool, true, false, cond, not, _&&_}
+use mathlib.Core.Bool.{Bool, true, false, cond, not}
 use lib.ListN.{length, take, drop, getD, length-append, length-drop, take-append-drop, drop-of-length-le}
 use lib.Seq.{length-take-le, drop-cons, take-at, drop-drop, drop-append-add}
-use lib.Dec.{ltb, eqb}
+use lib.Dec.{eqb}
 use borrow.Author.Tests.{lt-ltb, ltb-true, eq-eqb, ne-eqb, eqb-true, not-true}
 use Rattle.wire.proofs.Laws.{both-true}
 use Rattle.text.specs.Text.{allOf}
-use Rattle.text.specs.Lines.{lengthTo, headTo, tailAfter, nextLine, startOf, fromLine, lineOf, ended}
+use Rattle.text.specs.Lines.{lengthTo, headTo, tailAfter, nextLine, startOf, fromLine, ended}
 
 -- THE SCAN for the first b
 module _ (b : ℕ) (s : List ℕ) (i : ℕ) where

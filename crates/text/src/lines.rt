@@ -1,7 +1,6 @@
 // Text in lines, each ended by a line feed, and the parts of a line, parted by tabs. All functions are total.
 ghost use mathlib.Core.Path.{_≡_};
-ghost use lib.ListN.{drop};
-ghost use Rattle.text.specs.Lines.{lengthTo, headTo, tailAfter, nextLine, startOf, fromLine, lineOf, ended};
+ghost use Rattle.text.specs.Lines.{lengthTo, headTo, tailAfter, nextLine, startOf, lineOf, ended};
 
 pub const TAB: u8 = 9;
 
@@ -21,13 +20,6 @@ pub fn length_to(s: &[u8], b: u8) -> usize
     i
 }
 
-// What stands from `at` on; nothing past the end.
-pub fn rest(s: &[u8], at: usize) -> &[u8]
-    ensures { λ r. ⌜ now r ≡ drop at (now (s .entry)) ⌝ }
-{
-    if at <= s.len() { &s[at..] } else { &s[..0] }
-}
-
 // What stands before the first b.
 pub fn head_to(s: &[u8], b: u8) -> &[u8]
     ensures { λ r. ⌜ now r ≡ headTo b (now (s .entry)) ⌝ }
@@ -40,7 +32,7 @@ pub fn tail_after(s: &[u8], b: u8) -> &[u8]
     ensures { λ r. ⌜ now r ≡ tailAfter b (now (s .entry)) ⌝ }
 {
     let n = length_to(s, b);
-    rest(s, n + 1)
+    wire::rest(s, n + 1)
 }
 
 // Where the line after the one at `at` starts.
@@ -48,7 +40,7 @@ pub fn next_line(s: &[u8], at: usize) -> usize
     ensures { λ r. ⌜ r ≡ nextLine (now (s .entry)) at ⌝ }
 {
     if at < s.len() {
-        return at + length_to(rest(s, at), LINE_FEED) + 1;
+        return at + length_to(wire::rest(s, at), LINE_FEED) + 1;
     }
     at
 }
@@ -70,7 +62,7 @@ pub fn start_of(s: &[u8], k: u32) -> usize
 pub fn line_of(s: &[u8], k: u32) -> &[u8]
     ensures { λ r. ⌜ now r ≡ lineOf k (now (s .entry)) ⌝ }
 {
-    head_to(rest(s, start_of(s, k)), LINE_FEED)
+    head_to(wire::rest(s, start_of(s, k)), LINE_FEED)
 }
 
 // Whether the line that the text begins with has its line feed.

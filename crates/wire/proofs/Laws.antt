@@ -6,15 +6,15 @@ use native.Mathlib.Decide.{ℕ-discrete}
 use native.Mathlib.Nat.{add-zero}
 use mathlib.Core.Path.{_≡_, refl, sym, ap, ap₂, _∙_, subst}
 use mathlib.Core.List.{List, [], _∷_, _++_, append-assoc, append-nil}
-use mathlib.Core.Bool.{Bool, true, false, cond, _&&_, _||_, not}
+use mathlib.Core.Bool.{Bool, true, false, cond, _&&_}
 use lib.ListN.{length, take, drop, getD, replicate, length-append, length-take, length-drop, length-replicate, take-append-drop, drop-of-length-le}
-use lib.Seq.{take-at, drop-at, drop-append-add, drop-drop, drop-cons, drop-nil, paste, take-length}
-use lib.Bits.{bitOr, or-add-and, and-le-l, and-le-r, or-zero-l}
+use lib.Seq.{take-at, drop-append-add, drop-drop, drop-cons, drop-nil, paste, take-length}
+use lib.Bits.{bitOr, bitXor, or-add-and, and-le-l, and-le-r, or-zero-l, xor-add-and, xor-self}
 use lib.Dec.{leb, eqb}
-use borrow.Author.Tests.{le-leb, lt-leb, leb-true, leb-false, eq-eqb, ne-eqb}
+use borrow.Author.Tests.{le-leb, lt-leb, leb-true, leb-false, eq-eqb, ne-eqb, eqb-true}
 use Rattle.wire.specs.declared.Check.{Check}
 use Rattle.wire.specs.declared.Check.the-variants.{Fine, Failed}
-use Rattle.wire.specs.Wire.{verdict, pick, part, put, room, fit, placed, Wrote, Ran, Runs, Page, page, Wrotes, joined, pad, alike, allZero}
+use Rattle.wire.specs.Wire.{verdict, part, put, room, fit, placed, Wrote, Runs, page, Wrotes, joined, pad, alike, allZero}
 
 -- CHECKS
 pub by-cases : {A : Type 0} (P : A → Type 0) (b : Bool) {x y : A} → (b ≡ true → P x) → (b ≡ false → P y) → P (cond b x y)
@@ -30,6 +30,10 @@ pub failed : (b : Bool) {r : Check} → r ≡ Failed → r ≡ verdict b → b �
 unfolding verdict
 failed true p q = cc
 failed false p q = refl
+
+pub both-true : (a b : Bool) → (a && b) ≡ true → (a ≡ true) × (b ≡ true)
+both-true true b e = (refl, e)
+both-true false b e = (e, cc)
 
 -- WRITES
 pub has-room : (size at n : ℕ) → at + n ≤ size → room size at n ≡ true
@@ -178,6 +182,21 @@ padded n x h =
     let z : 0 + length x ≡ length x = omega arith in
     rw (e, z, drop-zeros n (length x) 0)
 
+-- x, then zeros up to n
+pub put-pad : (d : List ℕ) (at n : ℕ) (x : List ℕ) → length x ≤ n → at + n ≤ length d → put (put d at x) (at + length x) (replicate (n - length x) 0) ≡ put d at (pad n x)
+put-pad d at n x h k =
+    let z : List ℕ = replicate (n - length x) 0 in
+    let l : length z ≡ n - length x = length-replicate (n - length x) 0 in
+    put-put d at x z (omega arith) ∙ ap (put d at) (sym (padded n x h))
+
+-- nothing of an x that is longer
+pub pad-none : (n : ℕ) (x : List ℕ) → n < length x → pad n x ≡ replicate n 0
+unfolding fit
+pad-none n x h =
+    let z : List ℕ = replicate n 0 in
+    let l : length z ≡ n = length-replicate n 0 in
+    rw (no-room (length z) 0 (length x) (omega arith))
+
 -- PARTS
 pub length-part : (s : List ℕ) (at n : ℕ) → at + n ≤ length s → length (part s at n) ≡ n
 unfolding part
@@ -213,6 +232,22 @@ pub alike-end : (a b : List ℕ) (i : ℕ) → length a ≤ i → length b ≤ i
 unfolding alike
 alike-end a b i h k = rw (drop-of-length-le a h, drop-of-length-le b k)
 
+-- what is alike is the same
+never : false ≡ true → ⊥
+never q = let z : _≡_ {A = ℕ} 0 1 = cc in omega arith
+
+pub alike-self : (l : List ℕ) → alike l l ≡ true
+unfolding alike
+alike-self [] = refl
+alike-self (x ∷ l) = rw (eq-eqb x x refl) (alike-self l)
+
+pub alike-same : (a b : List ℕ) → alike a b ≡ true → a ≡ b
+unfolding alike
+alike-same [] [] e = refl
+alike-same [] (y ∷ b) e = absurd (never e)
+alike-same (x ∷ a) [] e = absurd (never e)
+alike-same (x ∷ a) (y ∷ b) e = let p = both-true (eqb x y) (alike a b) e in ap₂ _∷_ (eqb-true x y (p .0)) (alike-same a b (p .1))
+
 -- UNUSED ROOM: what bytes gathered by `or` tell
 or-none : (d z : ℕ) → bitOr d z ≡ 0 → d ≡ 0
 or-none d z e = omega (arith, or-add-and d z, and-le-l d z, and-le-r d z)
@@ -242,6 +277,23 @@ module _ (s : List ℕ) (d i : ℕ) where
   unfolding allZero
   gathered h = rw (drop-of-length-le s h) (and-one (eqb d 0))
 
+-- COMPARISON: what differences gathered by `or` tell
+xor-zero : (x y : ℕ) → eqb (bitXor x y) 0 ≡ eqb x y
+xor-zero x y = go (ℕ-discrete x y)
+  where
+    go : Dec (x ≡ y) → eqb (bitXor x y) 0 ≡ eqb x y
+    go (yes p) = rw (p, xor-self y, eq-eqb y y refl)
+    go (no p) = rw (ne-eqb x y p, ne-eqb (bitXor x y) 0 (λ e. p (omega (arith, xor-add-and x y, and-le-l x y, and-le-r x y))))
+
+module _ (a b : List ℕ) (d i : ℕ) where
+  pub differ : i < length a → i < length b → (eqb d 0 && alike (drop i a) (drop i b)) ≡ (eqb (bitOr d (bitXor (getD a i 0) (getD b i 0))) 0 && alike (drop (i + 1) a) (drop (i + 1) b))
+  differ h k =
+      let x = bitXor (getD a i 0) (getD b i 0) in
+      rw (alike-step a b i h k, or-zero d x, xor-zero (getD a i 0) (getD b i 0)) (sym (and-assoc (eqb d 0) (eqb (getD a i 0) (getD b i 0)) (alike (drop (i + 1) a) (drop (i + 1) b))))
+
+  pub differed : length a ≤ i → length b ≤ i → (eqb d 0 && alike (drop i a) (drop i b)) ≡ eqb d 0
+  differed h k = rw (alike-end a b i h k) (and-one (eqb d 0))
+
 -- a run that fills all of d
 pub filled : {d v d′ : List ℕ} {r : ℕ} → Runs d 0 v d′ r → length v ≡ length d → d′ ≡ v
 filled {d} {v} f e = let h : length v ≤ length d = omega arith in let k : length d ≤ length v = omega arith in front f h .0 ∙ rw (drop-of-length-le d k, append-nil v)
@@ -253,9 +305,12 @@ part-small s at n =
     (λ e. by-cases (λ (l : List ℕ). length l ≤ length s) (leb n (length s - at)) {x = take n (drop at s)} {y = []} (λ f. simp (length-take, length-drop) (omega arith)) (λ f. omega arith))
     (λ e. omega arith)
 
-pub both-true : (a b : Bool) → (a && b) ≡ true → (a ≡ true) × (b ≡ true)
-both-true true b e = (refl, e)
-both-true false b e = (e, cc)
+pub part-most : (s : List ℕ) (at n : ℕ) → length (part s at n) ≤ n
+unfolding part
+part-most s at n =
+    by-cases (λ (l : List ℕ). length l ≤ n) (leb at (length s)) {x = cond (leb n (length s - at)) (take n (drop at s)) []} {y = []}
+    (λ e. by-cases (λ (l : List ℕ). length l ≤ n) (leb n (length s - at)) {x = take n (drop at s)} {y = []} (λ f. simp length-take (omega arith)) (λ f. omega arith))
+    (λ e. omega arith)
 
 pub part-none : (s : List ℕ) (at : ℕ) → part s at 0 ≡ []
 unfolding part

@@ -1,14 +1,14 @@
 -- A list and its parts: what stands at a place is read off field by field (`peel`), and the parts side by side are the list (`beside`). Assumes nothing.
-use mathlib.Core.Path.{_≡_, refl, sym, ap, _∙_, subst}
+use mathlib.Core.Path.{_≡_, refl, sym, ap, _∙_}
 use mathlib.Core.List.{List, [], _∷_, _++_, append-nil}
-use mathlib.Core.Bool.{true, false, cond}
-use Prim.Native.Nat.{ℕ, zero, suc, _+_, _-_, _*_, _/_, _%_, _≤_, _<_}
+use mathlib.Core.Bool.{true, cond}
+use Prim.Native.Nat.{ℕ, zero, suc, _+_, _-_, _/_, _%_, _≤_, _<_}
 use native.Mathlib.Omega.{arith}
 use lib.ListN.{length, take, drop, getD, replicate, length-append, length-drop, length-replicate}
 use lib.Seq.{take-at, drop-at, drop-drop, drop-cons, take-add, take-all, getD-drop}
 use lib.Dec.{lit<, leb}
 use Rattle.wire.specs.Wire.{part, put, fit, room, pad, grab, num16, num32, be1, be2, be4, allZero}
-use Rattle.wire.proofs.Laws.{by-cases, length-put, padded, length-part, part-plain, part-none, room-true}
+use Rattle.wire.proofs.Laws.{by-cases, length-put, padded, length-part, part-plain, room-true}
 
 -- LENGTHS: what is padded has its length, whatever it is padded from
 pub length-pad : (n : ℕ) (x : List ℕ) → length (pad n x) ≡ n

@@ -1,10 +1,8 @@
 // Bytes: reads and writes on slices, all total. A write without room changes nothing.
 ghost use mathlib.Core.Path.{_≡_};
 ghost use mathlib.Core.Bool.{_&&_, _||_, not};
-ghost use mathlib.Core.List.{_∷_, []};
 ghost use Prim.Native.Nat.{_+_, _≤_, _<_};
 ghost use lib.ListN.{length, getD, drop, replicate};
-ghost use lib.Dec.{eqb};
 ghost use Rattle.wire.specs.Wire.{verdict, part, put, room, Wrote, pad, grab, num16, num32, be1, be2, be4, alike, allZero};
 
 // The outcome of a check.
@@ -86,6 +84,13 @@ pub fn part(s: &[u8], start: usize, len: usize) -> &[u8]
     }
 }
 
+// What follows a place: nothing past the end.
+pub fn rest(s: &[u8], at: usize) -> &[u8]
+    ensures { λ r. ⌜ now r ≡ drop at (now (s .entry)) ⌝ }
+{
+    if at <= s.len() { &s[at..] } else { &s[..0] }
+}
+
 fn copy(out: &mut [u8], at: usize, v: &[u8]) -> usize
     requires { ⌜ at + length (now v) ≤ length (now out) ⌝ }
     ensures { λ r. ⌜ (now (out .exit) ≡ put (now (out .entry)) at (now (v .entry))) × (r ≡ at + length (now (v .entry))) ⌝ }
@@ -129,12 +134,23 @@ fn wipe(out: &mut [u8], at: usize, n: usize) -> usize
     at + i
 }
 
-// Clears n bytes from the place `at`, and returns the place after them.
-pub fn clear(out: &mut [u8], at: usize, n: usize) -> usize
-    ensures { λ r. ⌜ Wrote (now (out .entry)) at (replicate n 0) (now (out .exit)) r ⌝ }
+fn fill(out: &mut [u8], at: usize, n: usize, v: &[u8]) -> usize
+    requires { ⌜ at + n ≤ length (now out) ⌝ }
+    ensures { λ r. ⌜ (now (out .exit) ≡ put (now (out .entry)) at (pad n (now (v .entry)))) × (r ≡ at + n) ⌝ }
+{
+    if v.len() <= n {
+        let end = copy(out, at, v);
+        return wipe(out, end, n - v.len());
+    }
+    wipe(out, at, n)
+}
+
+// Copies v to n bytes from the place `at` and clears those after it, all of them where v is longer; returns the place after them.
+pub fn put_padded(out: &mut [u8], at: usize, n: usize, v: &[u8]) -> usize
+    ensures { λ r. ⌜ Wrote (now (out .entry)) at (pad n (now (v .entry))) (now (out .exit)) r ⌝ }
 {
     if has_room(out.len(), at, n) {
-        return wipe(out, at, n);
+        return fill(out, at, n, v);
     }
     at
 }
@@ -165,20 +181,20 @@ pub fn put32(out: &mut [u8], at: usize, x: u32) -> usize
     put_bytes(out, at, &b)
 }
 
+// The differences are gathered and looked at once, at the end, as in `zero_from`.
 pub fn equal(a: &[u8], b: &[u8]) -> bool
     ensures { λ r. ⌜ r ≡ alike (now (a .entry)) (now (b .entry)) ⌝ }
 {
     if a.len() != b.len() {
         return false;
     }
+    let mut any: u8 = 0;
     let mut i = 0;
     while i < a.len() {
-        if a[i] != b[i] {
-            return false;
-        }
+        any = any | (a[i] ^ b[i]);
         i += 1;
     }
-    true
+    any == 0
 }
 
 // Whether every byte of s from `at` on is zero: unused room. The bytes are gathered and looked at once, at the end, so that the
@@ -195,7 +211,7 @@ pub fn zero_from(s: &[u8], at: usize) -> bool
     any == 0
 }
 
-// Arrays by value, three functions for each length.
+// Arrays by value: read, padded and written, for each length.
 
 pub fn take3(s: &[u8], at: usize) -> [u8; 3]
     ensures { λ r. ⌜ (r ≡ grab 3 at (now (s .entry))) × (length r ≡ 3) ⌝ }
@@ -297,38 +313,10 @@ pub fn give65(out: &mut [u8], at: usize, a: [u8; 65]) -> usize
     put_bytes(out, at, &a)
 }
 
-pub fn take512(s: &[u8], at: usize) -> [u8; 512]
-    ensures { λ r. ⌜ (r ≡ grab 512 at (now (s .entry))) × (length r ≡ 512) ⌝ }
-{
-    pad512(part(s, at, 512))
-}
-
-pub fn pad512(x: &[u8]) -> [u8; 512]
-    ensures { λ r. ⌜ (r ≡ pad 512 (now (x .entry))) × (length r ≡ 512) ⌝ }
-{
-    let mut a = [0u8; 512];
-    put_bytes(&mut a, 0, x);
-    a
-}
-
 pub fn give512(out: &mut [u8], at: usize, a: [u8; 512]) -> usize
     ensures { λ r. ⌜ (Wrote (now (out .entry)) at a (now (out .exit)) r) × (length a ≡ 512) ⌝ }
 {
     put_bytes(out, at, &a)
-}
-
-pub fn take640(s: &[u8], at: usize) -> [u8; 640]
-    ensures { λ r. ⌜ (r ≡ grab 640 at (now (s .entry))) × (length r ≡ 640) ⌝ }
-{
-    pad640(part(s, at, 640))
-}
-
-pub fn pad640(x: &[u8]) -> [u8; 640]
-    ensures { λ r. ⌜ (r ≡ pad 640 (now (x .entry))) × (length r ≡ 640) ⌝ }
-{
-    let mut a = [0u8; 640];
-    put_bytes(&mut a, 0, x);
-    a
 }
 
 pub fn give640(out: &mut [u8], at: usize, a: [u8; 640]) -> usize

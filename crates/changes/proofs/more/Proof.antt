@@ -18,14 +18,8 @@ enum-told-3 c = search needs
 enum-told-4 : tie.Need-enum-told-4
 enum-told-4 c = search needs
 
-changed-requires : tie.Need-changed-requires
-changed-requires c κs = tt
-
-changed-requires-2 : tie.Need-changed-requires-2
-changed-requires-2 c κs = tt
-
-add-result : tie.Need-add-result
-add-result c = search needs
+renewed-requires : tie.Need-renewed-requires
+renewed-requires c κs = tt
 
 enum-told-5 : tie.Need-enum-told-5
 enum-told-5 c = search needs
@@ -65,7 +59,7 @@ returns-3 c = (rw (c .enum-told3 .given .1), omega arith)
 
 returns-4 : tie.Need-returns-4
 unfolding setPin
-returns-4 c = (rw (c .before .before .enum-told4 .given .1) (cc), omega (arith, c .changed2 .ensures .1, c .before .changed .ensures .1))
+returns-4 c = (rw (c .before .enum-told4 .given .1) (c .renewed .ensures .0), c .renewed .ensures .1)
 
 returns-5 : tie.Need-returns-5
 unfolding sign
@@ -107,9 +101,7 @@ more-spec =
     enum-told-2
     enum-told-3
     enum-told-4
-    changed-requires
-    changed-requires-2
-    add-result
+    renewed-requires
     enum-told-5
     enum-told-6
     enum-told-7

@@ -1,39 +1,45 @@
 use mathlib.Core.Path.{ap, ap₂, _∙_}
-use Rattle.card.specs.Values.{withKey, withWallet}
+use denote.Ref.{now}
+use Rattle.card.specs.Image.{decode}
+use mathlib.Core.List.{[]}
+use Rattle.card.specs.Values.{faced, purged, heldKey, withKey, withWallet}
+use Rattle.image.proofs.Renewed.{anew-wallet, anew-key}
+use Rattle.changes.proofs.Laws.{said-as}
 use borrow.Author.Needs.{needs}
 use Rattle.changes.proofs.purged.Statement.{statement}
 use Rattle.changes.proofs.purged.Tie as tie
 
+wallet-requires : tie.Need-wallet-requires
+wallet-requires c κs = tt
+
+flags-requires : tie.Need-flags-requires
+flags-requires c κs = tt
+
 purge-requires : tie.Need-purge-requires
 purge-requires c κs = tt
 
-with-wallet-requires : tie.Need-with-wallet-requires
-with-wallet-requires c κs = tt
+wallet-requires-2 : tie.Need-wallet-requires-2
+wallet-requires-2 c κs = tt
 
-slice-aggregate-held : tie.Need-slice-aggregate-held
-slice-aggregate-held c = search needs
+slice-aggregate-key : tie.Need-slice-aggregate-key
+slice-aggregate-key c = search needs
 
-held-requires : tie.Need-held-requires
-held-requires c κs = tt
+key-requires : tie.Need-key-requires
+key-requires c κs = tt
 
-with-key-requires : tie.Need-with-key-requires
-with-key-requires c κs = tt
+same-length : tie.Need-same-length
+same-length c = search needs
 
 returns : tie.Need-returns
-returns c =
-    let k = c .before in
-    let w = k .before .before in
-    let s = w .before in
-    c .with-key .ensures
-    ∙ ap₂ withKey (k .held .ensures) (w .with-wallet .ensures ∙ ap (λ x. withWallet x (s .before .before .args .face)) (s .purge .ensures))
+returns c = λ rest h.
+    let k = c .before .before in
+    let w = k .before .before .before .before .before in
+    let r = w .before in
+    let f = r .before .before in
+    let g = f .before in
+    let t = decode (now (g .before .before .before .args .img)) in
+    let e = r .purge .ensures ∙ ap₂ purged (ap (λ z. z .reusable) (f .flags .ensures)) (g .wallet .ensures) in
+    said-as (λ i. faced (withKey (heldKey []) (withWallet (e i) (t .face))) t) (anew-key [] (k .key .ensures) (anew-wallet (r .purge .result) (w .wallet2 .ensures) h))
 
 pub purged-spec : {M : Type 1} → statement M
-purged-spec =
-    tie.close
-    (tie.spec
-    purge-requires
-    with-wallet-requires
-    slice-aggregate-held
-    held-requires
-    with-key-requires
-    returns)
+purged-spec = tie.close (tie.spec wallet-requires flags-requires purge-requires wallet-requires-2 slice-aggregate-key key-requires same-length returns)

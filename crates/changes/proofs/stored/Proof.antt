@@ -1,47 +1,46 @@
-use mathlib.Core.Path.{ap, ap₂, _∙_}
-use Rattle.card.specs.Values.{withCounters, withProtected, withUser}
+use mathlib.Core.Path.{ap, _∙_}
+use denote.Ref.{now}
+use Rattle.card.specs.Image.{decode}
+use Rattle.card.specs.Values.{faced, withCounters, withProtected, withUser}
+use Rattle.manual.specs.Storage.{storedBlock, storedCounters}
+use Rattle.image.proofs.Renewed.{anew-counters}
+use Rattle.changes.proofs.Laws.{said-as}
+use borrow.Author.Needs.{needs}
 use Rattle.changes.proofs.stored.Statement.{statement}
 use Rattle.changes.proofs.stored.Tie as tie
 
-stored-block-requires : tie.Need-stored-block-requires
-stored-block-requires c κs = tt
+stored-user-requires : tie.Need-stored-user-requires
+stored-user-requires c κs = tt
 
-with-user-requires : tie.Need-with-user-requires
-with-user-requires c κs = tt
+stored-protected-requires : tie.Need-stored-protected-requires
+stored-protected-requires c κs = tt
 
-stored-block-requires-2 : tie.Need-stored-block-requires-2
-stored-block-requires-2 c κs = tt
-
-with-protected-requires : tie.Need-with-protected-requires
-with-protected-requires c κs = tt
+counters-requires : tie.Need-counters-requires
+counters-requires c κs = tt
 
 stored-counters-requires : tie.Need-stored-counters-requires
 stored-counters-requires c κs = tt
 
-with-counters-requires : tie.Need-with-counters-requires
-with-counters-requires c κs = tt
+counters-requires-2 : tie.Need-counters-requires-2
+counters-requires-2 c κs = tt
+
+same-length : tie.Need-same-length
+same-length c = search needs
 
 returns : tie.Need-returns
-returns c =
-    let n = c .before in
-    let g = n .before in
-    let t = g .before in
-    let u = t .before in
-    let s = u .before in
-    let f = s .before .before .before .before .before .args .face in
-    c .with-counters .ensures
-    ∙ ap₂ withCounters (n .stored-counters .ensures)
-    (g .with-protected .ensures
-    ∙ ap₂ withProtected (t .stored-block2 .ensures) (u .with-user .ensures ∙ ap (λ x. withUser x f) (s .stored-block .ensures)))
+returns c = λ rest h.
+    let k = c .before .before in
+    let r = k .before in
+    let g = r .before .before in
+    let n = g .before .before .before in
+    let u = n .before .before .before .before in
+    let x = u .before .before .before .before .before .args in
+    let p = now (x .p) in
+    let t = decode (now (x .img)) in
+    let f = withUser (storedBlock 0x2A p (t .face .user)) (t .face) in
+    let e = r .stored-counters .ensures ∙ ap (storedCounters p) (g .counters .ensures) in
+    said-as (λ i. faced (withCounters (e i) (withProtected (storedBlock 0x2B p (t .face .protected)) f)) t)
+    (anew-counters (r .stored-counters .result) (k .counters2 .ensures) (n .stored-protected .ensures (faced f t) rest (u .stored-user .ensures t rest h)))
 
 pub stored-spec : {M : Type 1} → statement M
-stored-spec =
-    tie.close
-    (tie.spec
-    stored-block-requires
-    with-user-requires
-    stored-block-requires-2
-    with-protected-requires
-    stored-counters-requires
-    with-counters-requires
-    returns)
+stored-spec = tie.close (tie.spec stored-user-requires stored-protected-requires counters-requires stored-counters-requires counters-requires-2 same-length returns)

@@ -1,16 +1,29 @@
 use mathlib.Core.Path.{sym, _∙_}
+use denote.Ref.{now}
 use borrow.Author.Needs.{needs}
+use Rattle.card.specs.Values.{bare}
+use Rattle.checks.proofs.Laws.{new-conditions, again-conditions}
 use Rattle.checks.proofs.sign_conditions.Statement.{statement}
 use Rattle.checks.proofs.sign_conditions.Tie as tie
 
-is-new-requires : tie.Need-is-new-requires
-is-new-requires c κs = tt
+signing-requires : tie.Need-signing-requires
+signing-requires c κs = tt
+
+enum-known-n : tie.Need-enum-known-n
+enum-known-n c = search needs
+
+enum-told : tie.Need-enum-told
+enum-told c = search needs
+
+returns : tie.Need-returns
+returns c =
+    let t = c .before in
+    let s = t .before .before in
+    let x = s .before .before .args in
+    again-conditions (bare (x .face)) (now (x .p)) (sym (s .signing .ensures) ∙ t .enum-told .given .1)
 
 cast-sum : tie.Need-cast-sum
 cast-sum c = search needs
-
-hash-count-requires : tie.Need-hash-count-requires
-hash-count-requires c κs = tt
 
 add-sum : tie.Need-add-sum
 add-sum c = search needs
@@ -18,13 +31,22 @@ add-sum c = search needs
 both-requires : tie.Need-both-requires
 both-requires c κs = tt
 
-returns : tie.Need-returns
-returns c = let n = c .before .before .before .before in rw (sym (n .before .is-new .ensures) ∙ n .if1 .taken) (rw (c .before .before .hash-count .ensures .0) at (c .both .ensures))
-
 returns-2 : tie.Need-returns-2
-returns-2 c = rw (sym (c .before .before .is-new .ensures) ∙ c .before .if1 .left)
+returns-2 c =
+    let t = c .before .before .before .before in
+    let s = t .before .before in
+    let x = s .before .before .args in
+    c .both .ensures ∙ new-conditions (bare (x .face)) (now (x .p)) _ (sym (s .signing .ensures) ∙ t .n .given .1)
 
 pub sign-conditions-spec : {M : Type 1} → statement M
 sign-conditions-spec =
     tie.close
-    (tie.spec is-new-requires cast-sum hash-count-requires add-sum both-requires returns returns-2)
+    (tie.spec
+    signing-requires
+    enum-known-n
+    enum-told
+    returns
+    cast-sum
+    add-sum
+    both-requires
+    returns-2)

@@ -1,10 +1,8 @@
-use Rattle.wire.proofs.Laws.{fine, failed}
+use mathlib.Core.Path.{refl}
+use Rattle.gate.proofs.Laws.{goes-on, ends}
 use borrow.Author.Needs.{needs}
 use Rattle.gate.proofs.entry.Statement.{statement}
 use Rattle.gate.proofs.entry.Tie as tie
-
-well-formed-requires : tie.Need-well-formed-requires
-well-formed-requires c κs = tt
 
 has-pin1-requires : tie.Need-has-pin1-requires
 has-pin1-requires c κs = tt
@@ -27,8 +25,7 @@ enum-told-2 c = search needs
 returns : tie.Need-returns
 returns c =
     let t = c .before .before in
-    simp
-    (failed _ (c .enum-told2 .given .1) (t .before .before .before .before .well-formed .ensures))
+    ends _ _ (c .enum-told2 .given .1) (t .before .before .before .has-pin1 .ensures)
 
 enum-told-3 : tie.Need-enum-told-3
 enum-told-3 c = search needs
@@ -40,10 +37,8 @@ returns-2 : tie.Need-returns-2
 returns-2 c =
     let t1 = c .before .before in
     let t = t1 .before .before in
-    simp (
-      fine _ (t1 .enum-told .given .1) (t .before .before .before .before .well-formed .ensures),
-      failed _ (c .enum-told4 .given .1) (t .before .before .before .has-pin1 .ensures),
-    )
+    goes-on _ _ (t1 .enum-told .given .1) (t .before .before .before .has-pin1 .ensures)
+    (ends _ _ (c .enum-told4 .given .1) (t .before .before .has-cid .ensures))
 
 enum-told-5 : tie.Need-enum-told-5
 enum-told-5 c = search needs
@@ -56,11 +51,9 @@ returns-3 c =
     let t2 = c .before .before in
     let t1 = t2 .before .before in
     let t = t1 .before .before in
-    simp (
-      fine _ (t1 .enum-told .given .1) (t .before .before .before .before .well-formed .ensures),
-      fine _ (t2 .enum-told3 .given .1) (t .before .before .before .has-pin1 .ensures),
-      failed _ (c .enum-told6 .given .1) (t .before .before .has-cid .ensures),
-    )
+    goes-on _ _ (t1 .enum-told .given .1) (t .before .before .before .has-pin1 .ensures)
+    (goes-on _ _ (t2 .enum-told3 .given .1) (t .before .before .has-cid .ensures)
+    (ends _ _ (c .enum-told6 .given .1) (t .before .is-awake .ensures)))
 
 enum-told-7 : tie.Need-enum-told-7
 enum-told-7 c = search needs
@@ -74,54 +67,27 @@ returns-4 c =
     let t2 = t3 .before .before in
     let t1 = t2 .before .before in
     let t = t1 .before .before in
-    simp (
-      fine _ (t1 .enum-told .given .1) (t .before .before .before .before .well-formed .ensures),
-      fine _ (t2 .enum-told3 .given .1) (t .before .before .before .has-pin1 .ensures),
-      fine _ (t3 .enum-told5 .given .1) (t .before .before .has-cid .ensures),
-      failed _ (c .enum-told8 .given .1) (t .before .is-awake .ensures),
-    )
-
-enum-told-9 : tie.Need-enum-told-9
-enum-told-9 c = search needs
-
-enum-told-10 : tie.Need-enum-told-10
-enum-told-10 c = search needs
+    goes-on _ _ (t1 .enum-told .given .1) (t .before .before .before .has-pin1 .ensures)
+    (goes-on _ _ (t2 .enum-told3 .given .1) (t .before .before .has-cid .ensures)
+    (goes-on _ _ (t3 .enum-told5 .given .1) (t .before .is-awake .ensures)
+    (ends _ _ (c .enum-told8 .given .1) (t .is-allowed .ensures))))
 
 returns-5 : tie.Need-returns-5
 returns-5 c =
-    let t4 = c .before .before in
-    let t3 = t4 .before .before in
+    let t3 = c .before .before in
     let t2 = t3 .before .before in
     let t1 = t2 .before .before in
     let t = t1 .before .before in
-    simp (
-      fine _ (t1 .enum-told .given .1) (t .before .before .before .before .well-formed .ensures),
-      fine _ (t2 .enum-told3 .given .1) (t .before .before .before .has-pin1 .ensures),
-      fine _ (t3 .enum-told5 .given .1) (t .before .before .has-cid .ensures),
-      fine _ (t4 .enum-told7 .given .1) (t .before .is-awake .ensures),
-      failed _ (c .enum-told10 .given .1) (t .is-allowed .ensures),
-    )
-
-returns-6 : tie.Need-returns-6
-returns-6 c =
-    let t4 = c .before .before in
-    let t3 = t4 .before .before in
-    let t2 = t3 .before .before in
-    let t1 = t2 .before .before in
-    let t = t1 .before .before in
-    simp (
-      fine _ (t1 .enum-told .given .1) (t .before .before .before .before .well-formed .ensures),
-      fine _ (t2 .enum-told3 .given .1) (t .before .before .before .has-pin1 .ensures),
-      fine _ (t3 .enum-told5 .given .1) (t .before .before .has-cid .ensures),
-      fine _ (t4 .enum-told7 .given .1) (t .before .is-awake .ensures),
-      fine _ (c .enum-told9 .given .1) (t .is-allowed .ensures),
-    )
+    goes-on _ _ (t1 .enum-told .given .1) (t .before .before .before .has-pin1 .ensures)
+    (goes-on _ _ (t2 .enum-told3 .given .1) (t .before .before .has-cid .ensures)
+    (goes-on _ _ (t3 .enum-told5 .given .1) (t .before .is-awake .ensures)
+    (goes-on _ _ (c .enum-told7 .given .1) (t .is-allowed .ensures)
+    refl)))
 
 pub entry-spec : {M : Type 1} → statement M
 entry-spec =
     tie.close
     (tie.spec
-    well-formed-requires
     has-pin1-requires
     has-cid-requires
     is-awake-requires
@@ -138,7 +104,4 @@ entry-spec =
     enum-told-7
     enum-told-8
     returns-4
-    enum-told-9
-    enum-told-10
-    returns-5
-    returns-6)
+    returns-5)

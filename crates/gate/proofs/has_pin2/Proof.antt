@@ -1,22 +1,37 @@
+use mathlib.Core.Path.{sym, _∙_}
+use Rattle.wire.specs.Wire.{verdict}
+use borrow.Author.Needs.{needs}
 use Rattle.gate.proofs.has_pin2.Statement.{statement}
 use Rattle.gate.proofs.has_pin2.Tie as tie
 
 needs-pin2-requires : tie.Need-needs-pin2-requires
 needs-pin2-requires c κs = tt
 
-unless-requires : tie.Need-unless-requires
-unless-requires c κs = tt
+slice-aggregate-holds : tie.Need-slice-aggregate-holds
+slice-aggregate-holds c = search needs
 
-either-requires : tie.Need-either-requires
-either-requires c κs = tt
+holds-requires : tie.Need-holds-requires
+holds-requires c κs = tt
 
 checked-requires : tie.Need-checked-requires
 checked-requires c κs = tt
 
 returns : tie.Need-returns
-returns c = rw (c .before .either .ensures, c .before .before .unless .ensures, c .before .before .before .needs-pin2 .ensures) at (c .checked .ensures)
+returns c =
+    let t = c .before .before .before .before in
+    rw (sym (t .before .needs-pin2 .ensures) ∙ t .if1 .taken) (rw (c .before .holds .ensures) at (c .checked .ensures))
+
+returns-2 : tie.Need-returns-2
+unfolding verdict
+returns-2 c = rw (sym (c .before .needs-pin2 .ensures) ∙ c .if1 .left)
 
 pub has-pin2-spec : {M : Type 1} → statement M
 has-pin2-spec =
     tie.close
-    (tie.spec needs-pin2-requires unless-requires either-requires checked-requires returns)
+    (tie.spec
+    needs-pin2-requires
+    slice-aggregate-holds
+    holds-requires
+    checked-requires
+    returns
+    returns-2)

@@ -1,4 +1,5 @@
-use Rattle.wire.proofs.Laws.{fine, failed}
+use mathlib.Core.Path.{refl}
+use Rattle.gate.proofs.Laws.{goes-on, ends}
 use borrow.Author.Needs.{needs}
 use Rattle.gate.proofs.own.Statement.{statement}
 use Rattle.gate.proofs.own.Tie as tie
@@ -24,8 +25,7 @@ enum-told-2 c = search needs
 returns : tie.Need-returns
 returns c =
     let t = c .before .before in
-    simp
-    (failed _ (c .enum-told2 .given .1) (t .before .before .before .has-pin2 .ensures))
+    ends _ _ (c .enum-told2 .given .1) (t .before .before .before .has-pin2 .ensures)
 
 enum-told-3 : tie.Need-enum-told-3
 enum-told-3 c = search needs
@@ -37,10 +37,8 @@ returns-2 : tie.Need-returns-2
 returns-2 c =
     let t1 = c .before .before in
     let t = t1 .before .before in
-    simp (
-      fine _ (t1 .enum-told .given .1) (t .before .before .before .has-pin2 .ensures),
-      failed _ (c .enum-told4 .given .1) (t .before .before .has-cvc .ensures),
-    )
+    goes-on _ _ (t1 .enum-told .given .1) (t .before .before .before .has-pin2 .ensures)
+    (ends _ _ (c .enum-told4 .given .1) (t .before .before .has-cvc .ensures))
 
 enum-told-5 : tie.Need-enum-told-5
 enum-told-5 c = search needs
@@ -53,11 +51,9 @@ returns-3 c =
     let t2 = c .before .before in
     let t1 = t2 .before .before in
     let t = t1 .before .before in
-    simp (
-      fine _ (t1 .enum-told .given .1) (t .before .before .before .has-pin2 .ensures),
-      fine _ (t2 .enum-told3 .given .1) (t .before .before .has-cvc .ensures),
-      failed _ (c .enum-told6 .given .1) (t .before .has-fields .ensures),
-    )
+    goes-on _ _ (t1 .enum-told .given .1) (t .before .before .before .has-pin2 .ensures)
+    (goes-on _ _ (t2 .enum-told3 .given .1) (t .before .before .has-cvc .ensures)
+    (ends _ _ (c .enum-told6 .given .1) (t .before .has-fields .ensures)))
 
 enum-told-7 : tie.Need-enum-told-7
 enum-told-7 c = search needs
@@ -71,12 +67,10 @@ returns-4 c =
     let t2 = t3 .before .before in
     let t1 = t2 .before .before in
     let t = t1 .before .before in
-    simp (
-      fine _ (t1 .enum-told .given .1) (t .before .before .before .has-pin2 .ensures),
-      fine _ (t2 .enum-told3 .given .1) (t .before .before .has-cvc .ensures),
-      fine _ (t3 .enum-told5 .given .1) (t .before .has-fields .ensures),
-      failed _ (c .enum-told8 .given .1) (t .has-conditions .ensures),
-    )
+    goes-on _ _ (t1 .enum-told .given .1) (t .before .before .before .has-pin2 .ensures)
+    (goes-on _ _ (t2 .enum-told3 .given .1) (t .before .before .has-cvc .ensures)
+    (goes-on _ _ (t3 .enum-told5 .given .1) (t .before .has-fields .ensures)
+    (ends _ _ (c .enum-told8 .given .1) (t .has-conditions .ensures))))
 
 returns-5 : tie.Need-returns-5
 returns-5 c =
@@ -84,12 +78,11 @@ returns-5 c =
     let t2 = t3 .before .before in
     let t1 = t2 .before .before in
     let t = t1 .before .before in
-    simp (
-      fine _ (t1 .enum-told .given .1) (t .before .before .before .has-pin2 .ensures),
-      fine _ (t2 .enum-told3 .given .1) (t .before .before .has-cvc .ensures),
-      fine _ (t3 .enum-told5 .given .1) (t .before .has-fields .ensures),
-      fine _ (c .enum-told7 .given .1) (t .has-conditions .ensures),
-    )
+    goes-on _ _ (t1 .enum-told .given .1) (t .before .before .before .has-pin2 .ensures)
+    (goes-on _ _ (t2 .enum-told3 .given .1) (t .before .before .has-cvc .ensures)
+    (goes-on _ _ (t3 .enum-told5 .given .1) (t .before .has-fields .ensures)
+    (goes-on _ _ (c .enum-told7 .given .1) (t .has-conditions .ensures)
+    refl)))
 
 pub own-spec : {M : Type 1} → statement M
 own-spec =

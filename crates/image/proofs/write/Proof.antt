@@ -1,6 +1,5 @@
 use native.Mathlib.Omega.{arith}
-use mathlib.Core.Path.{_≡_, sym, _∙_}
-use lib.ListN.{length}
+use mathlib.Core.Path.{sym, _∙_}
 use Rattle.wire.proofs.Laws.{then, tested, refused, room-true, room-false}
 use Rattle.card.specs.Image.{encode}
 use Rattle.image.proofs.Held.{card-held}

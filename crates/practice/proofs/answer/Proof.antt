@@ -1,8 +1,9 @@
-use mathlib.Core.Path.{_≡_, refl, sym, ap, _∙_, subst}
+use mathlib.Core.Path.{ap, _∙_}
 use denote.Ref.{now}
 use Rattle.wire.proofs.Laws.{fine, failed}
-use Rattle.manual.specs.Settle.{lent, settledBy}
+use Rattle.manual.specs.Settle.{settledBy}
 use Rattle.practice.specs.Carried.{answeredIn}
+use Rattle.practice.proofs.Laws.{asked-front}
 use borrow.Author.Needs.{needs}
 use Rattle.practice.proofs.answer.Statement.{statement}
 use Rattle.practice.proofs.answer.Tie as tie
@@ -21,8 +22,12 @@ only-requires c κs = tt
 
 returns : tie.Need-returns
 unfolding answeredIn
-returns c = let x = c .before .before .before .before .before .before .before .before .before .before .args in
-    rw (failed _ (c .before .enum-told2 .given .1) (c .before .before .before .has-answers .ensures)) (ap (λ r. settledBy r (now (x .response)) (now (x .next))) (c .only .ensures))
+returns c =
+    let k = c .before .before .before in
+    let s = k .before .before .before .before .before .before .before in
+    let x = s .args in
+    let e = asked-front (x .cmd) (now (x .img)) (now (x .p)) (now (x .draw)) (now (x .answers)) (s .pre .3) in
+    rw (e ∙ failed _ (c .before .enum-told2 .given .1) (k .has-answers .ensures)) (ap (λ r. settledBy r (now (x .response)) (now (x .next))) (c .only .ensures))
 
 has-confirmation-requires : tie.Need-has-confirmation-requires
 has-confirmation-requires c κs = tt
@@ -34,7 +39,7 @@ enum-told-4 : tie.Need-enum-told-4
 enum-told-4 c = search needs
 
 refuse-requires : tie.Need-refuse-requires
-refuse-requires c κs = (search needs)
+refuse-requires c κs = search needs
 
 same-length : tie.Need-same-length
 same-length c = search needs
@@ -44,12 +49,18 @@ same-length-2 c = search needs
 
 returns-2 : tie.Need-returns-2
 unfolding answeredIn
-returns-2 c = let w = c .before .before .before .before in
+returns-2 c =
+    let w = c .before .before .before .before in
     let t = w .before .before .before in
-    rw (fine _ (t .before .before .before .enum-told .given .1) (t .before .before .before .before .before .has-answers .ensures), failed _ (t .enum-told4 .given .1) (t .before .before .has-confirmation .ensures)) (w .refuse .ensures)
+    let u = t .before .before .before in
+    let k = u .before .before in
+    let s = k .before .before .before .before .before .before .before in
+    let x = s .args in
+    let e = asked-front (x .cmd) (now (x .img)) (now (x .p)) (now (x .draw)) (now (x .answers)) (s .pre .3) in
+    rw (e ∙ fine _ (u .enum-told .given .1) (k .has-answers .ensures), failed _ (t .enum-told4 .given .1) (t .before .before .has-confirmation .ensures)) (w .refuse .ensures)
 
 carry-out-requires : tie.Need-carry-out-requires
-carry-out-requires c κs = (search needs)
+carry-out-requires c κs = search needs
 
 same-length-3 : tie.Need-same-length-3
 same-length-3 c = search needs
@@ -59,9 +70,15 @@ same-length-4 c = search needs
 
 returns-3 : tie.Need-returns-3
 unfolding answeredIn
-returns-3 c = let w = c .before .before .before .before in
+returns-3 c =
+    let w = c .before .before .before .before in
     let t = w .before .before .before in
-    rw (fine _ (t .before .before .before .enum-told .given .1) (t .before .before .before .before .before .has-answers .ensures), fine _ (t .enum-told3 .given .1) (t .before .before .has-confirmation .ensures)) (w .carry-out .ensures)
+    let u = t .before .before .before in
+    let k = u .before .before in
+    let s = k .before .before .before .before .before .before .before in
+    let x = s .args in
+    let e = asked-front (x .cmd) (now (x .img)) (now (x .p)) (now (x .draw)) (now (x .answers)) (s .pre .3) in
+    rw (e ∙ fine _ (u .enum-told .given .1) (k .has-answers .ensures), fine _ (t .enum-told3 .given .1) (t .before .before .has-confirmation .ensures)) (w .carry-out .ensures)
 
 pub answer-spec : {M : Type 1} → statement M
 answer-spec =

@@ -1,9 +1,8 @@
-use mathlib.Core.Path.{_≡_, refl, sym, ap, _∙_, subst}
+use mathlib.Core.Path.{ap}
 use denote.Ref.{now}
 use Rattle.wire.proofs.Laws.{fine, failed}
 use borrow.Author.Tests.{leb-true}
-use Rattle.manual.specs.Settle.{askedFor, askedOf, posedBy, matched}
-use Rattle.manual.specs.Request.{payload}
+use Rattle.manual.specs.Settle.{askedFor, posedBy}
 use borrow.Author.Needs.{needs}
 use Rattle.practice.proofs.ask.Statement.{statement}
 use Rattle.practice.proofs.ask.Tie as tie
@@ -62,11 +61,8 @@ returns-3 c = let t = c .before in
     let x = t .before .before .before .before .before .before .before .before .before .before .before .before .before .args in
     rw (fine _ (t .before .before .before .before .before .before .enum-told .given .1) (t .before .before .before .before .before .before .before .before .is-card .ensures), fine _ (t .before .before .before .enum-told3 .given .1) (t .before .before .before .before .before .has-room .ensures), failed _ (t .enum-told6 .given .1) (t .before .before .is-draw .ensures)) (ap (λ r. posedBy r (now (x .questions))) (c .only3 .ensures))
 
-read-requires : tie.Need-read-requires
-read-requires c κs = tt
-
 ask-card-requires : tie.Need-ask-card-requires
-ask-card-requires c κs = let h = c .before .before .before .before .before in
+ask-card-requires c κs = let h = c .before .before .before .before in
     leb-true _ _ (fine _ (h .enum-told3 .given .1) (h .before .before .has-room .ensures))
 
 same-length : tie.Need-same-length
@@ -74,11 +70,10 @@ same-length c = search needs
 
 returns-4 : tie.Need-returns-4
 unfolding askedFor
-returns-4 c = let w = c .before .before in
-    let r = w .before .before in
-    let t = r .before in
-    let x = t .before .before .before .before .before .before .before .before .before .before .before .before .before .args in
-    rw (fine _ (t .before .before .before .before .before .before .enum-told .given .1) (t .before .before .before .before .before .before .before .before .is-card .ensures), fine _ (t .before .before .before .enum-told3 .given .1) (t .before .before .before .before .before .has-room .ensures), fine _ (t .enum-told5 .given .1) (t .before .before .is-draw .ensures)) (w .ask-card .ensures ∙ ap (λ z. askedOf (matched (z .codes) (payload (now (x .request)))) (z .face) (now (x .request)) (now (x .draw)) (now (x .questions))) (r .read .ensures))
+returns-4 c =
+    let w = c .before .before in
+    let t = w .before .before in
+    rw (fine _ (t .before .before .before .before .before .before .enum-told .given .1) (t .before .before .before .before .before .before .before .before .is-card .ensures), fine _ (t .before .before .before .enum-told3 .given .1) (t .before .before .before .before .before .has-room .ensures), fine _ (t .enum-told5 .given .1) (t .before .before .is-draw .ensures)) (w .ask-card .ensures)
 
 pub ask-spec : {M : Type 1} → statement M
 ask-spec =
@@ -99,7 +94,6 @@ ask-spec =
     enum-told-6
     only-requires-3
     returns-3
-    read-requires
     ask-card-requires
     same-length
     returns-4)

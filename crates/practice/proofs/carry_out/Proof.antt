@@ -1,12 +1,15 @@
-use mathlib.Core.Path.{_≡_, refl, sym, ap, _∙_, subst}
+use mathlib.Core.Path.{ap, _∙_}
 use denote.Ref.{now}
-use Rattle.practice.proofs.Laws.{imaged, carries}
+use lib.ListN.{drop}
+use Rattle.card.specs.Image.{decode}
+use Rattle.manual.specs.Settle.{matched}
+use Rattle.practice.proofs.Laws.{changed, spelled, carries}
 use borrow.Author.Needs.{needs}
 use Rattle.practice.proofs.carry_out.Statement.{statement}
 use Rattle.practice.proofs.carry_out.Tie as tie
 
-card-after-requires : tie.Need-card-after-requires
-card-after-requires c κs = tt
+change-requires : tie.Need-change-requires
+change-requires c κs = tt
 
 more-requires : tie.Need-more-requires
 more-requires c κs = tt
@@ -14,11 +17,11 @@ more-requires c κs = tt
 add-word : tie.Need-add-word
 add-word c = search needs
 
-respond-requires : tie.Need-respond-requires
-respond-requires c κs = (search needs)
+part-requires : tie.Need-part-requires
+part-requires c κs = tt
 
-write-requires : tie.Need-write-requires
-write-requires c κs = tt
+respond-requires : tie.Need-respond-requires
+respond-requires c κs = search needs
 
 same-length : tie.Need-same-length
 same-length c = search needs
@@ -27,24 +30,30 @@ same-length-2 : tie.Need-same-length-2
 same-length-2 c = search needs
 
 returns : tie.Need-returns
-returns c = let w4 = c .before .before in
-    let w3 = w4 .before .before .before .before in
-    let m = w3 .before .before .before in
-    let k = m .before in
-    let s = k .before .before .before .before .before .before in
+returns c =
+    let r = c .before .before in
+    let t = r .before .before in
+    let o = t .before .before in
+    let h = o .before .before .before in
+    let s = h .before .before .before .before .before .before .before .before in
     let x = s .args in
-    carries (x .cmd) (x .m) (x .card) (now (x .p)) (now (x .draw)) (now (x .answers)) (now (x .response)) (now (x .next)) (k .card-after .ensures) (m .more .ensures .0) (w3 .respond .ensures .0) (w3 .respond .ensures .1)
-    (imaged (k .card-after .result) (w4 .write .ensures .0) (w4 .write .ensures .1) (s .pre .1))
+    let m = now (x .img) in
+    let p = now (x .p) in
+    let a = now (x .answers) in
+    let d = now (x .next) in
+    let e = changed (x .cmd) m p a d (s .pre .2) (h .change .ensures) (s .pre .1) in
+    let f = ap decode (t .part .ensures) ∙ spelled (x .cmd) m p a d (s .pre .2) (drop 2429 d) e in
+    carries (x .cmd) (matched (x .codes) p) (decode m) p (now (x .draw)) a (now (x .response)) d f (o .more .ensures .0) (r .respond .ensures .0) (r .respond .ensures .1) e
 
 pub carry-out-spec : {M : Type 1} → statement M
 carry-out-spec =
     tie.close
     (tie.spec
-    card-after-requires
+    change-requires
     more-requires
     add-word
+    part-requires
     respond-requires
-    write-requires
     same-length
     same-length-2
     returns)

@@ -1,7 +1,8 @@
-use mathlib.Core.Path.{_≡_, refl, sym, ap, _∙_, subst}
+use mathlib.Core.Path.{ap}
 use denote.Ref.{now}
 use Rattle.wire.proofs.Laws.{fine, failed}
-use Rattle.manual.specs.Settle.{settled, settledOf, settledBy}
+use Rattle.manual.specs.Settle.{settled, settledBy}
+use Rattle.image.proofs.Round.{is-card-length}
 use Rattle.practice.proofs.Laws.{rooms}
 use borrow.Author.Needs.{needs}
 use Rattle.practice.proofs.settle.Statement.{statement}
@@ -61,12 +62,12 @@ returns-3 c = let t = c .before in
     let x = t .before .before .before .before .before .before .before .before .before .before .before .before .before .before .before .args in
     rw (fine _ (t .before .before .before .before .before .before .enum-told .given .1) (t .before .before .before .before .before .before .before .before .is-card .ensures), fine _ (t .before .before .before .enum-told3 .given .1) (t .before .before .before .before .before .has-rooms .ensures), failed _ (t .enum-told6 .given .1) (t .before .before .is-draw .ensures)) (ap (λ r. settledBy r (now (x .response)) (now (x .next))) (c .only3 .ensures))
 
-read-requires : tie.Need-read-requires
-read-requires c κs = tt
-
 settle-card-requires : tie.Need-settle-card-requires
-settle-card-requires c κs = let h = c .before .before .before .before .before .before in
-    rooms _ _ (fine _ (h .enum-told3 .given .1) (h .before .before .has-rooms .ensures))
+settle-card-requires c κs =
+    let t = c .before .before in
+    let h = t .before .before .before in
+    let z = rooms _ _ (fine _ (h .enum-told3 .given .1) (h .before .before .has-rooms .ensures)) in
+    (z .0, z .1, is-card-length _ (fine _ (h .before .before .before .enum-told .given .1) (h .before .before .before .before .before .is-card .ensures)))
 
 same-length : tie.Need-same-length
 same-length c = search needs
@@ -76,11 +77,10 @@ same-length-2 c = search needs
 
 returns-4 : tie.Need-returns-4
 unfolding settled
-returns-4 c = let w = c .before .before .before .before in
-    let r = w .before .before .before in
-    let t = r .before in
-    let x = t .before .before .before .before .before .before .before .before .before .before .before .before .before .before .before .args in
-    rw (fine _ (t .before .before .before .before .before .before .enum-told .given .1) (t .before .before .before .before .before .before .before .before .is-card .ensures), fine _ (t .before .before .before .enum-told3 .given .1) (t .before .before .before .before .before .has-rooms .ensures), fine _ (t .enum-told5 .given .1) (t .before .before .is-draw .ensures)) (w .settle-card .ensures ∙ ap (λ z. settledOf z (now (x .request)) (now (x .draw)) (now (x .answers)) (now (x .response)) (now (x .next))) (r .read .ensures))
+returns-4 c =
+    let w = c .before .before .before .before in
+    let t = w .before .before .before in
+    rw (fine _ (t .before .before .before .before .before .before .enum-told .given .1) (t .before .before .before .before .before .before .before .before .is-card .ensures), fine _ (t .before .before .before .enum-told3 .given .1) (t .before .before .before .before .before .has-rooms .ensures), fine _ (t .enum-told5 .given .1) (t .before .before .is-draw .ensures)) (w .settle-card .ensures)
 
 pub settle-spec : {M : Type 1} → statement M
 settle-spec =
@@ -101,7 +101,6 @@ settle-spec =
     enum-told-6
     only-requires-3
     returns-3
-    read-requires
     settle-card-requires
     same-length
     same-length-2

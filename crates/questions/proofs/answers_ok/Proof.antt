@@ -3,6 +3,7 @@ use Rattle.manual.specs.Checking.{checkWallet, verifyCard, validateCard}
 use Rattle.manual.specs.Storage.{readUserData, writeUserData, writeIssuerData, readIssuerData}
 use Rattle.manual.specs.Row.{sizes, shaped}
 use denote.Ref.{now}
+use Rattle.card.specs.Values.{bare}
 use borrow.Author.Needs.{needs}
 use Rattle.questions.proofs.answers_ok.Statement.{statement}
 use Rattle.questions.proofs.answers_ok.Tie as tie
@@ -89,7 +90,7 @@ returns-2 c = rw (c .before .enum-told2 .given .1) (c .key-answer .ensures)
 
 returns-3 : tie.Need-returns-3
 unfolding checkWallet shaped sizes
-returns-3 c = rw (c .before .enum-told3 .given .1) (c .check-answers .ensures (c .before .before .before .before .before .before .args .face) (now (c .before .before .before .before .before .before .args .draw)))
+returns-3 c = rw (c .before .enum-told3 .given .1) (c .check-answers .ensures (bare (c .before .before .before .before .before .before .args .face)) (now (c .before .before .before .before .before .before .args .draw)))
 
 returns-4 : tie.Need-returns-4
 unfolding setPin shaped sizes

@@ -86,7 +86,7 @@ returns-10 c = rw (c .enum-told10 .given .1)
 
 returns-11 : tie.Need-returns-11
 unfolding writeIssuerData
-returns-11 c = rw (c .before .enum-told11 .given .1) cc
+returns-11 c = rw (c .before .enum-told11 .given .1, c .get8 .ensures)
 
 returns-12 : tie.Need-returns-12
 unfolding readIssuerData

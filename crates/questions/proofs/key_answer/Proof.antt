@@ -9,7 +9,7 @@ both-requires : tie.Need-both-requires
 both-requires c κs = tt
 
 returns : tie.Need-returns
-returns c = rw (eq-eqb _ _ (c .before .before .if1 .taken)) cc
+returns c = rw (eq-eqb _ _ (c .before .before .if1 .taken)) (rw (c .before .get8 .ensures) at (c .both .ensures))
 
 both-requires-2 : tie.Need-both-requires-2
 both-requires-2 c κs = tt

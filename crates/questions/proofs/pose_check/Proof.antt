@@ -5,6 +5,7 @@ use Rattle.questions.proofs.Laws.{all-as, ask-more, pair-small, check-s
 use Rattle.wire.proofs.Laws.{both-true}
 use Rattle.manual.specs.Row.{question, eachAsked}
 use Rattle.fields.specs.Fields.{val}
+use Rattle.card.specs.Values.{bare}
 use mathlib.Core.Bool.{true}
 use Rattle.manual.specs.Checking.{checkWallet, salt, challenged, keyMessage}
 use borrow.Author.Needs.{needs}
@@ -44,10 +45,10 @@ returns c =
     let e = sym (i .before .has .ensures) ∙ i .if1 .taken in
     rw e (record {
       list =
-          ask-more (question 3 n k (val 0x16 p ∷ salt d ∷ [])) (question 4 n k (keyMessage (x .face) p d) ∷ [])
+          ask-more (question 3 n k (val 0x16 p ∷ salt d ∷ [])) (question 4 n k (keyMessage (bare (x .face)) p d) ∷ [])
           (all-as (ap₂ (λ a b. eachAsked (question 3 n k (a ∷ b ∷ []) ∷ [])) (v .value .ensures) (t .before .before .part .ensures)) (t .put-two .ensures))
           (w .pose-key-check .ensures .0);
-      small = λ f. check-small (x .face) n k p d f (w .pose-key-check .ensures .1);
+      small = λ f. check-small (bare (x .face)) n k p d f (w .pose-key-check .ensures .1);
     })
 
 same-length-2 : tie.Need-same-length-2

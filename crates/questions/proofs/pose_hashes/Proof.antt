@@ -18,14 +18,14 @@ abbrev μ-loop : tie.MeasureT-loop
 loop-holds : tie.Need-loop-holds Inv-loop μ-loop
 loop-holds c = let x = c .before .before .args in (omega arith, refl, left-all (x .number) (x .curve) (length (now (x .hashes)) / 32) (now (x .hashes)))
 
-mul-part : tie.Need-mul-part Inv-loop μ-loop
-mul-part c = omega arith
+mul-take32 : tie.Need-mul-take32 Inv-loop μ-loop
+mul-take32 c = omega arith
 
-part-requires : tie.Need-part-requires Inv-loop μ-loop
-part-requires c κs = tt
+take32-requires : tie.Need-take32-requires Inv-loop μ-loop
+take32-requires c κs = tt
 
-put-one-requires : tie.Need-put-one-requires Inv-loop μ-loop
-put-one-requires c κs = tt
+put-hash-requires : tie.Need-put-hash-requires Inv-loop μ-loop
+put-hash-requires c κs = tt
 
 add-i : tie.Need-add-i Inv-loop μ-loop
 add-i c = omega arith
@@ -37,13 +37,14 @@ loop-again : tie.Need-loop-again Inv-loop μ-loop
 loop-again c =
     let w = c .before .before in
     let t = w .before .before .before in
+    let q = w .before .take32 .ensures .0 in
     let l = t .before .loop in
     let x = t .before .before .before .before .args in
     let h = now (x .hashes) in (
       omega arith,
-      w .put-one .kept .0 ∙ l .inv .1,
+      w .put-hash .kept .0 ∙ l .inv .1,
       turn (x .number) (x .curve) (length h / 32) (l .i) h (t .loop-test .taken) refl (l .inv .2)
-          (all-as (ap (λ m. eachAsked (question 2 (x .number) (x .curve) (m ∷ []) ∷ [])) (w .before .part .ensures)) (w .put-one .ensures)),
+          (all-as (ap (λ m. eachAsked (question 2 (x .number) (x .curve) (m ∷ []) ∷ [])) q) (w .put-hash .ensures .0)),
     )
 
 same-length : tie.Need-same-length Inv-loop μ-loop
@@ -62,9 +63,9 @@ pose-hashes-spec =
     Inv-loop
     μ-loop
     loop-holds
-    mul-part
-    part-requires
-    put-one-requires
+    mul-take32
+    take32-requires
+    put-hash-requires
     add-i
     loop-less
     loop-again

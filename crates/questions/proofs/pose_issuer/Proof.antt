@@ -1,7 +1,7 @@
 use mathlib.Core.Path.{sym, ap, _∙_}
 use denote.Ref.{now}
 use Rattle.questions.proofs.Laws.{ask, issuer-length, issuer-small}
-use Rattle.card.specs.Values.{u16}
+use Rattle.card.specs.Values.{u16, bare}
 use Rattle.manual.specs.Storage.{writeIssuerData, issuerMessage}
 use borrow.Author.Needs.{needs}
 use Rattle.questions.proofs.pose_issuer.Statement.{statement}
@@ -26,7 +26,7 @@ returns c = λ d.
     let h = w .before .before .before .before in
     let m = h .before .before in
     let x = m .before .before .before .args in
-    let f = x .face in
+    let f = bare (x .face) in
     let p = now (x .p) in
     let k = w .put-message .ensures .1 in
     record {

@@ -8,7 +8,7 @@ both-requires : tie.Need-both-requires
 both-requires c κs = tt
 
 returns : tie.Need-returns
-returns c = cc
+returns c = rw (c .before .get8 .ensures) at (c .both .ensures)
 
 pub yes-or-no-spec : {M : Type 1} → statement M
 yes-or-no-spec = tie.close (tie.spec get8-requires both-requires returns)

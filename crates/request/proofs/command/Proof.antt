@@ -1,4 +1,3 @@
-use borrow.Author.Needs.{needs}
 use Rattle.request.proofs.command.Statement.{statement}
 use Rattle.request.proofs.command.Tie as tie
 

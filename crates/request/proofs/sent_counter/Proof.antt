@@ -1,4 +1,3 @@
-use borrow.Author.Needs.{needs}
 use Rattle.request.proofs.sent_counter.Statement.{statement}
 use Rattle.request.proofs.sent_counter.Tie as tie
 

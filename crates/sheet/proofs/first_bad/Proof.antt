@@ -2,9 +2,9 @@ use mathlib.Core.List.{List}
 use Rattle.sheet.specs.Sheet.{goodLine, badFrom, firstBad}
 use Rattle.sheet.proofs.Laws.{bad-here, bad-on, bad-end}
 use Rattle.text.specs.Lines.{nextLine, startOf, fromLine}
-use mathlib.Core.Path.{_≡_, refl, sym, ap, ap₂, _∙_}
+use mathlib.Core.Path.{_≡_, refl, sym, ap, _∙_}
 use denote.Ref.{now}
-use Prim.Native.Nat.{ℕ, _+_, _-_, _≤_}
+use Prim.Native.Nat.{ℕ, _-_, _≤_}
 use mathlib.Core.Bool.{cond}
 use lib.ListN.{length, drop}
 use lib.Dec.{ltb}

@@ -1,8 +1,4 @@
-use Rattle.sheet.specs.Sheet.{goodRow, goodLine}
-use Rattle.text.specs.Lines.{headTo, tailAfter, ended}
-use mathlib.Core.Path.{_≡_, sym, ap, ap₂, _∙_}
-use mathlib.Core.Bool.{_&&_}
-use denote.Ref.{now}
+use Rattle.sheet.specs.Sheet.{goodLine}
 use Rattle.sheet.proofs.good_line.Statement.{statement}
 use Rattle.sheet.proofs.good_line.Tie as tie
 

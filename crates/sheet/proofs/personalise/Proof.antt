@@ -1,7 +1,6 @@
 use denote.Ref.{now}
-use Prim.Native.Nat.{ℕ}
-use mathlib.Core.Path.{_≡_, refl, sym, ap, _∙_}
-use mathlib.Core.List.{List, _++_}
+use mathlib.Core.Path.{sym, ap, _∙_}
+use mathlib.Core.List.{_++_}
 use lib.ListN.{drop}
 use Rattle.card.specs.declared.Card.{Card}
 use Rattle.card.specs.Image.{encode}

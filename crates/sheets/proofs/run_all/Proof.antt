@@ -1,5 +1,5 @@
 use denote.Ref.{now}
-use Prim.Native.Nat.{_-_, _<_}
+use Prim.Native.Nat.{_-_}
 use lib.ListN.{length}
 use Rattle.text.proofs.LineLaws.{next-later}
 use native.Mathlib.Omega.{arith}

@@ -1,28 +1,37 @@
+use mathlib.Core.Path.{subst}
 use native.Mathlib.Omega.{arith}
-use lib.ListN.{length}
 use Prim.Native.Nat.{_≤_}
-use Rattle.card.specs.Values.{blockOf}
+use denote.Ref.{now}
+use lib.ListN.{length}
+use Rattle.wire.specs.Wire.{Wrote, part}
 use Rattle.wire.proofs.Laws.{part-small}
+use Rattle.fields.specs.Fields.{tlv}
+use Rattle.card.specs.Values.{blockOf}
+use Rattle.image.specs.Group.{blockIn}
+use Rattle.image.proofs.Round.{shape-block}
 use borrow.Author.Needs.{needs}
 use Rattle.tells.proofs.put_block.Statement.{statement}
 use Rattle.tells.proofs.put_block.Tie as tie
 
-cast-n : tie.Need-cast-n
-cast-n c = search needs
+content-requires : tie.Need-content-requires
+content-requires c κs = tt
 
-put-start512-requires : tie.Need-put-start512-requires
-put-start512-requires c κs = tt
+put-field-requires : tie.Need-put-field-requires
+put-field-requires c κs = tt
 
 same-length : tie.Need-same-length
 same-length c = search needs
 
 returns : tie.Need-returns
-unfolding blockOf
+unfolding blockOf blockIn
 returns c =
     let w = c .before .before in
-    let x = w .before .before .before .before .before .args .block in
-    let h : length (blockOf x) ≤ length (x .bytes) = part-small (x .bytes) 0 (x .size) in
-    (w .put-start512 .ensures .0, omega (arith, w .put-start512 .ensures .1))
+    let x = w .before .before .before .before .before .args in
+    let b = blockIn (now (x .block)) in
+    let h : length (blockOf b) ≤ length (b .bytes) = part-small (b .bytes) 0 (b .size) in (
+      subst (λ l. Wrote (now (x .out)) (x .at) (tlv (x .tag) l) (w .put-field .last .0) (w .put-field .result)) (w .before .content .ensures) (w .put-field .ensures),
+      omega (arith, h, shape-block (part (now (x .block)) 0 514)),
+    )
 
 pub put-block-spec : {M : Type 1} → statement M
-put-block-spec = tie.close (tie.spec cast-n put-start512-requires same-length returns)
+put-block-spec = tie.close (tie.spec content-requires put-field-requires same-length returns)

@@ -1,20 +1,23 @@
+use mathlib.Core.Path.{subst}
 use native.Mathlib.Omega.{arith}
-use lib.ListN.{length}
 use Prim.Native.Nat.{_*_, _≤_}
-use Rattle.card.specs.Values.{lastOf}
+use denote.Ref.{now}
+use lib.ListN.{length}
+use Rattle.wire.specs.Wire.{Wrote}
 use Rattle.wire.proofs.Laws.{part-small}
+use Rattle.fields.specs.Fields.{tlv}
+use Rattle.card.specs.Values.{lastOf}
+use Rattle.card.specs.Image.{decode}
+use Rattle.image.proofs.Round.{shape-decode}
 use borrow.Author.Needs.{needs}
 use Rattle.tells.proofs.put_last.Statement.{statement}
 use Rattle.tells.proofs.put_last.Tie as tie
 
-cast-n : tie.Need-cast-n
-cast-n c = search needs
+last-requires : tie.Need-last-requires
+last-requires c κs = tt
 
-mul-n : tie.Need-mul-n
-mul-n c = search needs
-
-put-start640-requires : tie.Need-put-start640-requires
-put-start640-requires c κs = tt
+put-field-requires : tie.Need-put-field-requires
+put-field-requires c κs = tt
 
 same-length : tie.Need-same-length
 same-length c = search needs
@@ -23,9 +26,12 @@ returns : tie.Need-returns
 unfolding lastOf
 returns c =
     let w = c .before .before in
-    let x = w .before .before .before .before .before .args .last in
-    let h : length (lastOf x) ≤ length (x .signatures) = part-small (x .signatures) 0 (x .count * 64) in
-    (w .put-start640 .ensures .0, omega (arith, w .put-start640 .ensures .1))
+    let x = w .before .before .before .before .before .args in
+    let l = decode (now (x .img)) .face .last in
+    let h : length (lastOf l) ≤ length (l .signatures) = part-small (l .signatures) 0 (l .count * 64) in (
+      subst (λ z. Wrote (now (x .out)) (x .at) (tlv 0x61 z) (w .put-field .last .0) (w .put-field .result)) (w .before .last .ensures) (w .put-field .ensures),
+      omega (arith, h, shape-decode (now (x .img)) .face .last),
+    )
 
 pub put-last-spec : {M : Type 1} → statement M
-put-last-spec = tie.close (tie.spec cast-n mul-n put-start640-requires same-length returns)
+put-last-spec = tie.close (tie.spec last-requires put-field-requires same-length returns)

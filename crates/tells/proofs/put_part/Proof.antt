@@ -2,7 +2,7 @@ use denote.Ref.{now}
 use mathlib.Core.Path.{subst}
 use Rattle.fields.specs.Fields.{tlv}
 use Rattle.wire.specs.Wire.{Wrote}
-use Rattle.tells.proofs.Laws.{part-most}
+use Rattle.wire.proofs.Laws.{part-most}
 use borrow.Author.Needs.{needs}
 use Rattle.tells.proofs.put_part.Statement.{statement}
 use Rattle.tells.proofs.put_part.Tie as tie

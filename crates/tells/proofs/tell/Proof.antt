@@ -2,8 +2,10 @@ use Rattle.manual.specs.Wallet.{readCard, createWallet, setPin, sign, purgeWall
 use Rattle.manual.specs.Checking.{checkWallet, verifyCard, validateCard}
 use Rattle.manual.specs.Storage.{readUserData, writeUserData, writeIssuerData, readIssuerData}
 use native.Mathlib.Omega.{arith}
-use Rattle.fields.proofs.Laws.{field, none, loosely}
+use denote.Ref.{now}
 use mathlib.Core.List.{[]}
+use Rattle.fields.proofs.Laws.{none, loosely}
+use Rattle.card.specs.Image.{decode}
 use borrow.Author.Needs.{needs}
 use Rattle.tells.proofs.tell.Statement.{statement}
 use Rattle.tells.proofs.tell.Tie as tie
@@ -11,17 +13,26 @@ use Rattle.tells.proofs.tell.Tie as tie
 enum-told : tie.Need-enum-told
 enum-told c = search needs
 
+front-requires : tie.Need-front-requires
+front-requires c κs = tt
+
 tell-read-requires : tie.Need-tell-read-requires
 tell-read-requires c κs = tt
 
 enum-told-2 : tie.Need-enum-told-2
 enum-told-2 c = search needs
 
+front-requires-2 : tie.Need-front-requires-2
+front-requires-2 c κs = tt
+
 tell-created-requires : tie.Need-tell-created-requires
 tell-created-requires c κs = tt
 
 enum-told-3 : tie.Need-enum-told-3
 enum-told-3 c = search needs
+
+front-requires-3 : tie.Need-front-requires-3
+front-requires-3 c κs = tt
 
 tell-checked-requires : tie.Need-tell-checked-requires
 tell-checked-requires c κs = tt
@@ -44,14 +55,17 @@ tell-verified-requires c κs = tt
 enum-told-7 : tie.Need-enum-told-7
 enum-told-7 c = search needs
 
+front-requires-4 : tie.Need-front-requires-4
+front-requires-4 c κs = tt
+
 tell-validated-requires : tie.Need-tell-validated-requires
 tell-validated-requires c κs = tt
 
 enum-told-8 : tie.Need-enum-told-8
 enum-told-8 c = search needs
 
-put-byte-requires : tie.Need-put-byte-requires
-put-byte-requires c κs = tt
+tell-purged-requires : tie.Need-tell-purged-requires
+tell-purged-requires c κs = tt
 
 enum-told-9 : tie.Need-enum-told-9
 enum-told-9 c = search needs
@@ -76,21 +90,30 @@ same-length c = search needs
 
 returns : tie.Need-returns
 unfolding readCard
-returns c = rw (c .before .before .before .before .enum-told .given .1) (c .before .before .tell-read .ensures)
+returns c =
+    let w = c .before .before in
+    let f = w .before .before in
+    rw (f .before .enum-told .given .1) (rw (f .front .ensures) at (w .tell-read .ensures))
 
 same-length-2 : tie.Need-same-length-2
 same-length-2 c = search needs
 
 returns-2 : tie.Need-returns-2
 unfolding createWallet
-returns-2 c = rw (c .before .before .before .before .enum-told2 .given .1) (c .before .before .tell-created .ensures [] [] [])
+returns-2 c =
+    let w = c .before .before in
+    let f = w .before .before in
+    rw (f .before .enum-told2 .given .1) (rw (f .front2 .ensures) at (w .tell-created .ensures [] [] []))
 
 same-length-3 : tie.Need-same-length-3
 same-length-3 c = search needs
 
 returns-3 : tie.Need-returns-3
 unfolding checkWallet
-returns-3 c = rw (c .before .before .before .before .enum-told3 .given .1) (c .before .before .tell-checked .ensures)
+returns-3 c =
+    let w = c .before .before in
+    let f = w .before .before in
+    rw (f .before .enum-told3 .given .1) (rw (f .front3 .ensures) at (w .tell-checked .ensures))
 
 returns-4 : tie.Need-returns-4
 unfolding setPin
@@ -101,35 +124,47 @@ same-length-4 c = search needs
 
 returns-5 : tie.Need-returns-5
 unfolding sign
-returns-5 c = rw (c .before .before .before .before .enum-told5 .given .1) (c .before .before .tell-signed .ensures [] [] [])
+returns-5 c =
+    let w = c .before .before in
+    rw (w .before .before .enum-told5 .given .1) (w .tell-signed .ensures [] [] [])
 
 same-length-5 : tie.Need-same-length-5
 same-length-5 c = search needs
 
 returns-6 : tie.Need-returns-6
 unfolding verifyCard
-returns-6 c = rw (c .before .before .before .before .enum-told6 .given .1) (c .before .before .tell-verified .ensures (c .before .before .before .before .before .before .before .before .before .before .args .face) [])
+returns-6 c =
+    let w = c .before .before in
+    let x = w .before .before .before .before .before .before .before .before .before .args in
+    rw (w .before .before .enum-told6 .given .1) (w .tell-verified .ensures (decode (now (x .img)) .face) [])
 
 same-length-6 : tie.Need-same-length-6
 same-length-6 c = search needs
 
 returns-7 : tie.Need-returns-7
 unfolding validateCard
-returns-7 c = rw (c .before .before .before .before .enum-told7 .given .1) (c .before .before .tell-validated .ensures [] [])
+returns-7 c =
+    let w = c .before .before in
+    let f = w .before .before in
+    rw (f .before .enum-told7 .given .1) (rw (f .front4 .ensures) at (w .tell-validated .ensures [] []))
 
 same-length-7 : tie.Need-same-length-7
 same-length-7 c = search needs
 
 returns-8 : tie.Need-returns-8
 unfolding purgeWallet
-returns-8 c = rw (c .before .before .before .before .enum-told8 .given .1) (loosely 1200 (omega arith) (field 1 0x02 _ (c .before .before .put-byte .ensures) (omega arith) none))
+returns-8 c =
+    let w = c .before .before in
+    rw (w .before .before .enum-told8 .given .1) (w .tell-purged .ensures [] [] [])
 
 same-length-8 : tie.Need-same-length-8
 same-length-8 c = search needs
 
 returns-9 : tie.Need-returns-9
 unfolding readUserData
-returns-9 c = rw (c .before .before .before .before .enum-told9 .given .1) (c .before .before .tell-user .ensures [] [] [])
+returns-9 c =
+    let w = c .before .before in
+    rw (w .before .before .enum-told9 .given .1) (w .tell-user .ensures [] [] [])
 
 returns-10 : tie.Need-returns-10
 unfolding writeUserData
@@ -144,17 +179,22 @@ same-length-9 c = search needs
 
 returns-12 : tie.Need-returns-12
 unfolding readIssuerData
-returns-12 c = rw (c .before .before .before .before .enum-told12 .given .1) (c .before .before .tell-issuer .ensures [] [] [])
+returns-12 c =
+    let w = c .before .before in
+    rw (w .before .before .enum-told12 .given .1) (w .tell-issuer .ensures [] [] [])
 
 pub tell-spec : {M : Type 1} → statement M
 tell-spec =
     tie.close
     (tie.spec
     enum-told
+    front-requires
     tell-read-requires
     enum-told-2
+    front-requires-2
     tell-created-requires
     enum-told-3
+    front-requires-3
     tell-checked-requires
     enum-told-4
     enum-told-5
@@ -162,9 +202,10 @@ tell-spec =
     enum-told-6
     tell-verified-requires
     enum-told-7
+    front-requires-4
     tell-validated-requires
     enum-told-8
-    put-byte-requires
+    tell-purged-requires
     enum-told-9
     tell-user-requires
     enum-told-10

@@ -8,6 +8,9 @@ use Rattle.tells.proofs.tell_signed.Tie as tie
 put-last-requires : tie.Need-put-last-requires
 put-last-requires c κs = tt
 
+wallet-requires : tie.Need-wallet-requires
+wallet-requires c κs = tt
+
 put-number-requires : tie.Need-put-number-requires
 put-number-requires c κs = tt
 
@@ -22,10 +25,9 @@ unfolding sign
 returns c =
     let w3 = c .before .before in
     let w2 = w3 .before .before .before .before in
-    let w1 = w2 .before .before .before .before in
-    λ p d a. loosely 1200 (omega arith) (field 640 0x61 _ (w1 .put-last .ensures .0) (w1 .put-last .ensures .1) (field 4 0x62 _ (w2 .put-number .ensures) (omega arith) (field 4 0x63 _ (w3 .put-number2 .ensures) (omega arith) none)))
+    let g = w2 .before .before in
+    let w1 = g .before .before .before in
+    λ p d a. rw (← g .wallet .ensures) (loosely 1200 (omega arith) (field 640 0x61 _ (w1 .put-last .ensures .0) (w1 .put-last .ensures .1) (field 4 0x62 _ (w2 .put-number .ensures) (omega arith) (field 4 0x63 _ (w3 .put-number2 .ensures) (omega arith) none))))
 
 pub tell-signed-spec : {M : Type 1} → statement M
-tell-signed-spec =
-    tie.close
-    (tie.spec put-last-requires put-number-requires put-number-requires-2 same-length returns)
+tell-signed-spec = tie.close (tie.spec put-last-requires wallet-requires put-number-requires put-number-requires-2 same-length returns)

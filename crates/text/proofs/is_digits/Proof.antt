@@ -1,9 +1,9 @@
 use denote.Ref.{now}
-use Prim.Native.Nat.{ℕ, _+_, _-_, _≤_, _<_}
+use Prim.Native.Nat.{_-_}
 use lib.ListN.{length, drop}
 use Rattle.text.proofs.Laws.{all-stop, all-go, all-end}
-use Rattle.text.specs.Text.{allOf, isDigit, isDigits}
-use mathlib.Core.Path.{_≡_, refl, sym, ap, _∙_}
+use Rattle.text.specs.Text.{isDigit, isDigits}
+use mathlib.Core.Path.{_≡_, refl, sym, _∙_}
 use borrow.Author.Tests.{not-true, not-false}
 use native.Mathlib.Omega.{arith}
 use Rattle.text.proofs.is_digits.Statement.{statement}

@@ -1,5 +1,5 @@
 use Rattle.text.specs.Text.{pairValue}
-use mathlib.Core.Path.{_≡_, ap₂, _∙_}
+use mathlib.Core.Path.{ap₂, _∙_}
 use Prim.Native.Nat.{ℕ, _+_, _*_, _%_}
 use borrow.Author.Needs.{needs}
 use Rattle.text.proofs.pair_value.Statement.{statement}

@@ -1,13 +1,13 @@
-use lib.ListN.{take, length-drop}
+use lib.ListN.{length-drop}
 use lib.Seq.{take-all}
 use mathlib.Core.Path.{subst}
 use denote.Ref.{now}
 use Prim.Native.Nat.{ℕ, zero, suc, _+_, _-_, _*_, _/_, _%_, _^_, _≤_, _<_}
 use native.Mathlib.Nat.{pow-suc}
 use native.Mathlib.Omega.{arith}
-use mathlib.Core.Path.{_≡_, refl, sym, ap, _∙_}
-use mathlib.Core.List.{List, [], _∷_, _++_, append-assoc, append-nil}
-use lib.ListN.{length, drop, getD, set, replicate, length-set}
+use mathlib.Core.Path.{_≡_, refl, sym, _∙_}
+use mathlib.Core.List.{List, _∷_, _++_, append-assoc, append-nil}
+use lib.ListN.{length, drop, set, length-set}
 use lib.Seq.{drop-cons, getD-set-same, drop-set-lt}
 use native.Mathlib.Numerals.{add-one}
 use Rattle.wire.specs.Wire.{Wrote}

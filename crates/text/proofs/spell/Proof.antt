@@ -1,11 +1,11 @@
 use denote.Ref.{now}
-use Prim.Native.Nat.{ℕ, _+_, _-_, _≤_, _<_, _*_, _/_}
-use lib.ListN.{length, drop}
-use lib.Seq.{paste, paste-zero, paste-suc, length-paste}
-use lib.ListN.{length-set, getD}
+use Prim.Native.Nat.{_-_, _≤_, _/_}
+use lib.ListN.{length}
+use lib.Seq.{paste, paste-zero, paste-suc}
+use lib.ListN.{length-set}
 use native.Mathlib.Numerals.{add-one}
 use Rattle.wire.proofs.Laws.{pasted}
-use mathlib.Core.Path.{_≡_, refl, sym, ap, _∙_}
+use mathlib.Core.Path.{_≡_, refl, ap, _∙_}
 use Rattle.text.proofs.Laws.{length-unhex, getD-unhex}
 use Rattle.text.specs.Text.{unhex}
 use native.Mathlib.Omega.{arith}

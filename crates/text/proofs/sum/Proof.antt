@@ -1,7 +1,6 @@
 use denote.Ref.{now}
 use Prim.Native.Nat.{ℕ, _+_, _-_, _≤_, _<_, _*_}
 use lib.ListN.{length, drop}
-use lib.Dec.{leb}
 use borrow.Author.Tests.{le-leb, lt-leb}
 use Rattle.text.proofs.Laws.{decimal-step, decimal-end, decimal-grows}
 use Rattle.text.specs.Text.{decimalFrom, decimal, fitting}

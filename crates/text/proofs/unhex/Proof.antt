@@ -1,8 +1,7 @@
 use denote.Ref.{now}
-use Prim.Native.Nat.{ℕ, _+_, _*_, _/_, _≤_}
 use Rattle.wire.specs.Wire.{room, fit, placed}
 use borrow.Author.Tests.{leb-true}
-use mathlib.Core.Path.{_≡_, sym, _∙_}
+use mathlib.Core.Path.{sym, _∙_}
 use Rattle.text.proofs.Laws.{length-unhex}
 use borrow.Author.Needs.{needs}
 use Rattle.text.proofs.unhex.Statement.{statement}

@@ -1,11 +1,10 @@
 use denote.Ref.{now}
-use Prim.Native.Nat.{ℕ, _+_, _-_, _≤_, _<_, _*_, _/_}
-use lib.ListN.{length, drop}
-use lib.Seq.{paste, paste-zero, paste-suc, length-paste}
-use lib.ListN.{length-set, getD}
-use native.Mathlib.Numerals.{add-one}
+use Prim.Native.Nat.{_+_, _-_, _≤_, _*_}
+use lib.ListN.{length}
+use lib.Seq.{paste, paste-zero}
+use lib.ListN.{length-set}
 use Rattle.wire.proofs.Laws.{pasted}
-use mathlib.Core.Path.{_≡_, refl, sym, ap, _∙_}
+use mathlib.Core.Path.{_≡_, refl, ap, _∙_}
 use Rattle.text.proofs.Laws.{length-hexOf, getD-high, getD-low, paste-two}
 use Rattle.text.specs.Text.{hexOf}
 use native.Mathlib.Omega.{arith}

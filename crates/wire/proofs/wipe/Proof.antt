@@ -2,13 +2,12 @@ use denote.Ref.{now}
 use Rattle.wire.proofs.Laws.{pasted}
 use lib.Seq.{paste, paste-zero, paste-suc}
 use lib.ListN.{length, replicate, getD, length-set, length-replicate, getD-replicate}
-use Prim.Native.Nat.{ℕ, _+_, _-_, _≤_}
+use Prim.Native.Nat.{ℕ, _-_, _≤_}
 use borrow.Author.Needs.{needs}
 use native.Mathlib.Numerals.{add-one}
 use native.Mathlib.Omega.{arith}
-use mathlib.Core.Path.{_≡_, _∙_, sym, ap, refl}
+use mathlib.Core.Path.{_≡_, _∙_, ap, refl}
 use mathlib.Core.List.{List}
-use Rattle.wire.specs.Wire.{put}
 use Rattle.wire.proofs.wipe.Statement.{statement}
 use Rattle.wire.proofs.wipe.Tie as tie
 

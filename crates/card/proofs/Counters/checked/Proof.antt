@@ -1,4 +1,3 @@
-use borrow.Author.Needs.{needs}
 use Rattle.card.proofs.Counters.checked.Statement.{statement}
 use Rattle.card.proofs.Counters.checked.Tie as tie
 

@@ -1,4 +1,3 @@
-use borrow.Author.Needs.{needs}
 use Rattle.card.proofs.Counters.signed.Statement.{statement}
 use Rattle.card.proofs.Counters.signed.Tie as tie
 

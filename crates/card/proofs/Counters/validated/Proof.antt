@@ -1,4 +1,3 @@
-use borrow.Author.Needs.{needs}
 use Rattle.card.proofs.Counters.validated.Statement.{statement}
 use Rattle.card.proofs.Counters.validated.Tie as tie
 

@@ -1,18 +1,24 @@
-use Rattle.image.proofs.Laws.{both-and}
+use mathlib.Core.Path.{ap}
+use Prim.Native.Nat.{_*_}
 use lib.Dec.{leb}
+use Rattle.card.specs.Image.{decLast}
 use Rattle.card.specs.Valid.{okLast}
+use Rattle.image.proofs.Laws.{both-of, room-of}
 use borrow.Author.Needs.{needs}
 use Rattle.image.proofs.valid.last_ok.Statement.{statement}
 use Rattle.image.proofs.valid.last_ok.Tie as tie
 
-cast-n : tie.Need-cast-n
-cast-n c = search needs
+get8-requires : tie.Need-get8-requires
+get8-requires c κs = tt
 
-mul-n : tie.Need-mul-n
-mul-n c = search needs
+part-requires : tie.Need-part-requires
+part-requires c κs = tt
 
-slice-aggregate-zero-from : tie.Need-slice-aggregate-zero-from
-slice-aggregate-zero-from c = search needs
+cast-zero-from : tie.Need-cast-zero-from
+cast-zero-from c = search needs
+
+mul-zero-from : tie.Need-mul-zero-from
+mul-zero-from c = search needs
 
 zero-from-requires : tie.Need-zero-from-requires
 zero-from-requires c κs = tt
@@ -21,12 +27,22 @@ both-requires : tie.Need-both-requires
 both-requires c κs = tt
 
 returns : tie.Need-returns
-unfolding okLast
+unfolding okLast decLast
 returns c =
-    let x = c .before .before .before .before .before .before .args .x in
-    both-and (leb (x .count) 10) (c .both .ensures) (c .before .zero-from .ensures)
+    let z = c .before in
+    let p = z .before in
+    let g = p .before in
+    let s = g .before .before .args .s in
+    both-of (c .both .ensures) (ap (λ n. leb n 10) (g .get8 .ensures)) (room-of 640 1 (s .now) (z .zero-from .ensures) (ap (λ n. n * 64) (g .get8 .ensures)) (p .part .ensures))
 
 pub last-ok-spec : {M : Type 1} → statement M
 last-ok-spec =
     tie.close
-    (tie.spec cast-n mul-n slice-aggregate-zero-from zero-from-requires both-requires returns)
+    (tie.spec
+    get8-requires
+    part-requires
+    cast-zero-from
+    mul-zero-from
+    zero-from-requires
+    both-requires
+    returns)

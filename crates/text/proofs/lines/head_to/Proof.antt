@@ -1,5 +1,5 @@
 use denote.Ref.{now}
-use mathlib.Core.Path.{_≡_, ap, _∙_}
+use mathlib.Core.Path.{ap, _∙_}
 use Rattle.text.proofs.LineLaws.{length-to-within}
 use Rattle.text.specs.Lines.{headTo, lengthTo}
 use Rattle.wire.specs.Wire.{part}

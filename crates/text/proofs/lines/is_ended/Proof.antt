@@ -3,7 +3,7 @@ use mathlib.Core.List.{List}
 use Prim.Native.Nat.{ℕ}
 use lib.ListN.{length}
 use lib.Dec.{ltb}
-use mathlib.Core.Path.{_≡_, ap, _∙_}
+use mathlib.Core.Path.{ap}
 use Rattle.text.specs.Lines.{ended}
 use Rattle.text.proofs.lines.is_ended.Statement.{statement}
 use Rattle.text.proofs.lines.is_ended.Tie as tie

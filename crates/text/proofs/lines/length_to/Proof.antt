@@ -1,7 +1,7 @@
 use denote.Ref.{now}
 use Prim.Native.Nat.{_+_, _-_}
 use lib.ListN.{length, drop}
-use mathlib.Core.Path.{_≡_, refl}
+use mathlib.Core.Path.{_≡_}
 use Rattle.text.proofs.LineLaws.{scan-found, scan-on, scan-end}
 use Rattle.text.specs.Lines.{lengthTo}
 use native.Mathlib.Omega.{arith}

@@ -1,8 +1,8 @@
 use denote.Ref.{now}
 use Prim.Native.Nat.{ℕ}
 use lib.ListN.{drop}
-use mathlib.Core.Path.{_≡_, ap, _∙_}
-use Rattle.text.specs.Lines.{headTo, startOf, fromLine, lineOf}
+use mathlib.Core.Path.{ap, _∙_}
+use Rattle.text.specs.Lines.{headTo, fromLine, lineOf}
 use Rattle.text.proofs.lines.line_of.Statement.{statement}
 use Rattle.text.proofs.lines.line_of.Tie as tie
 

@@ -1,8 +1,7 @@
 use denote.Ref.{now}
-use Prim.Native.Nat.{ℕ, _+_, _≤_}
-use lib.ListN.{length, drop, length-drop}
-use mathlib.Core.List.{List}
-use mathlib.Core.Path.{_≡_, ap, _∙_}
+use Prim.Native.Nat.{ℕ, _+_}
+use lib.ListN.{drop, length-drop}
+use mathlib.Core.Path.{ap, _∙_}
 use Rattle.text.proofs.LineLaws.{length-to-within}
 use Rattle.text.specs.Lines.{lengthTo, nextLine}
 use borrow.Author.Tests.{lt-ltb, le-ltb}

@@ -1,7 +1,7 @@
 use denote.Ref.{now}
 use Prim.Native.Nat.{ℕ, _+_}
 use lib.ListN.{drop}
-use mathlib.Core.Path.{_≡_, ap, _∙_}
+use mathlib.Core.Path.{ap, _∙_}
 use Rattle.text.proofs.LineLaws.{length-to-within}
 use Rattle.text.specs.Lines.{tailAfter}
 use native.Mathlib.Omega.{arith}
