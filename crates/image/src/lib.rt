@@ -22,7 +22,7 @@ ghost use Rattle.wire.specs.Wire.{verdict, part, Wrote};
 ghost use Rattle.card.specs.Values.{front, blockOf, lastOf};
 ghost use Rattle.card.specs.Image.{encode, decode};
 ghost use Rattle.card.specs.Valid.{keySize, isCard};
-ghost use Rattle.image.specs.Group.{blockIn};
+ghost use Rattle.image.specs.Group.{groupAt, blockIn};
 
 // What bytes spell; whether it is a card says `is_card`.
 pub fn codes(img: &[u8]) -> Codes
@@ -69,19 +69,19 @@ pub fn counters(img: &[u8]) -> Counters
 
 // A group of bytes that begins with a block, where it stands; nothing where an image is too short for it.
 pub fn user(img: &[u8]) -> &[u8]
-    ensures { λ r. ⌜ blockIn (now r) ≡ decode (now (img .entry)) .face .user ⌝ }
+    ensures { λ r. ⌜ (now r ≡ groupAt 114 514 (now (img .entry))) × (blockIn (now r) ≡ decode (now (img .entry)) .face .user) ⌝ }
 {
     wire::part(face(img), 114, 514)
 }
 
 pub fn protected(img: &[u8]) -> &[u8]
-    ensures { λ r. ⌜ blockIn (now r) ≡ decode (now (img .entry)) .face .protected ⌝ }
+    ensures { λ r. ⌜ (now r ≡ groupAt 628 514 (now (img .entry))) × (blockIn (now r) ≡ decode (now (img .entry)) .face .protected) ⌝ }
 {
     wire::part(face(img), 628, 514)
 }
 
 pub fn note(img: &[u8]) -> &[u8]
-    ensures { λ r. ⌜ blockIn (now r) ≡ decode (now (img .entry)) .face .issuer .block ⌝ }
+    ensures { λ r. ⌜ (now r ≡ groupAt 1142 582 (now (img .entry))) × (blockIn (now r) ≡ decode (now (img .entry)) .face .issuer .block) ⌝ }
 {
     wire::part(face(img), 1142, 582)
 }

@@ -15,7 +15,7 @@ size-requires c κs = tt
 returns : tie.Need-returns
 returns c =
     let n = c .before .before in
-    rw (← n .note .ensures, eq-eqb _ _ (sym (c .before .size .ensures) ∙ c .if1 .taken)) (loosely 600 (omega arith) none)
+    rw (← n .note .ensures .1, eq-eqb _ _ (sym (c .before .size .ensures) ∙ c .if1 .taken)) (loosely 600 (omega arith) none)
 
 put-block-requires : tie.Need-put-block-requires
 put-block-requires c κs = tt
@@ -36,7 +36,7 @@ returns-2 c =
     let w1 = s .before .before .before in
     let i = w1 .before .before in
     let n = i .before .before in
-    rw (← s .signature .ensures, ← n .note .ensures, ne-eqb _ _ (λ e. i .if1 .left (i .before .size .ensures ∙ e)))
+    rw (← s .signature .ensures, ← n .note .ensures .1, ne-eqb _ _ (λ e. i .if1 .left (i .before .size .ensures ∙ e)))
     (loosely 600 (omega arith) (field 512 0x32 _ (w1 .put-block .ensures .0) (w1 .put-block .ensures .1) (field 64 0x33 _ (w2 .put-signature .ensures .0) (omega (arith, w2 .put-signature .ensures .1)) none)))
 
 pub tell-note-spec : {M : Type 1} → statement M

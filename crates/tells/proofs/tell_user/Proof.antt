@@ -39,7 +39,7 @@ returns c =
     let b = w2 .before .before in
     let w1 = b .before .before .before in
     let a = w1 .before .before in
-    λ p d z. rw (← g .counters .ensures, ← b .protected .ensures, ← a .user .ensures) (loosely 1200 (omega arith) (told-append (w1 .tell-held .ensures) (told-append (w2 .tell-held2 .ensures) (field 4 0x2C _ (w3 .put-number .ensures) (omega arith) (field 4 0x2D _ (w4 .put-number2 .ensures) (omega arith) none)))))
+    λ p d z. rw (← g .counters .ensures, ← b .protected .ensures .1, ← a .user .ensures .1) (loosely 1200 (omega arith) (told-append (w1 .tell-held .ensures) (told-append (w2 .tell-held2 .ensures) (field 4 0x2C _ (w3 .put-number .ensures) (omega arith) (field 4 0x2D _ (w4 .put-number2 .ensures) (omega arith) none)))))
 
 pub tell-user-spec : {M : Type 1} → statement M
 tell-user-spec = tie.close (tie.spec user-requires tell-held-requires protected-requires tell-held-requires-2 counters-requires put-number-requires put-number-requires-2 same-length returns)
