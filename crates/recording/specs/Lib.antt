@@ -1,0 +1,4 @@
+pub mod Recording
+pub mod Play
+pub mod Step
+pub mod Facts
