@@ -1,9 +1,15 @@
-"""What the tests of the host share: named checks, the programs of target/host, cards in a folder of their own."""
+"""What the tests of the host share: named checks, the programs of target/host, ./play and its memory, cards in a folder of their own."""
 
+import contextlib
+import fcntl
+import os
 import pathlib
+import re
 import subprocess
 import sys
 import tempfile
+import termios
+import time
 
 ROOT = pathlib.Path(__file__).resolve().parent.parent.parent
 BUILT = ROOT / "target" / "host"
@@ -35,6 +41,59 @@ def run(program: str, *words, **more) -> subprocess.CompletedProcess:
 
 def tap(*words, **more) -> subprocess.CompletedProcess:
     return run("tap", *words, **more)
+
+
+def play(*words, **more) -> subprocess.CompletedProcess:
+    return subprocess.run([str(ROOT / "play"), *map(str, words)], capture_output=True, timeout=600, **more)
+
+
+def build_player() -> None:
+    """The first play proves and builds the player, takes minutes and says so; afterwards ./play prints the recording's lines alone."""
+    subprocess.run([str(ROOT / "play")], input=b"", stdout=subprocess.DEVNULL)
+
+
+@contextlib.contextmanager
+def fed(printed):
+    """./play with a pipe into it: the process, the end that is written, and the end that tells what waits to be read."""
+    taken, given = os.pipe()
+    with subprocess.Popen([ROOT / "play"], stdin=taken, stdout=printed) as shell, open(given, "wb") as feed:
+        yield shell, feed, taken
+    os.close(taken)
+
+
+def give(feed, some: bytes, taken: int) -> None:
+    """Writes this, and waits until all of it has been read."""
+    feed.write(some)
+    feed.flush()
+    until = time.monotonic() + 60
+    while int.from_bytes(fcntl.ioctl(taken, termios.FIONREAD, bytes(4)), "little"):
+        if time.monotonic() > until:
+            raise RuntimeError("./play reads no further")
+
+
+def player_under(shell: int) -> pathlib.Path:
+    """/proc of the player that this ./play has started."""
+    until = time.monotonic() + 60
+    while time.monotonic() < until:
+        for child in pathlib.Path(f"/proc/{shell}/task/{shell}/children").read_text().split():
+            if pathlib.Path(f"/proc/{child}/cmdline").read_bytes().endswith(b"target/bin/play\0"):
+                return pathlib.Path(f"/proc/{child}")
+        time.sleep(0.01)
+    raise RuntimeError("./play has started no player")
+
+
+def told(process: pathlib.Path, name: str) -> str:
+    return re.search(rf"^{name}:\s+(\S+)", (process / "status").read_text(), re.M)[1]
+
+
+def peak(recording: bytes) -> int:
+    """The most memory in KiB that the player has held when it has played all of this and waits for more."""
+    with fed(subprocess.DEVNULL) as (shell, feed, taken):
+        give(feed, recording, taken)
+        player = player_under(shell.pid)
+        while told(player, "State") != "S":
+            time.sleep(0.01)
+        return int(told(player, "VmHWM"))
 
 
 def folder() -> pathlib.Path:
