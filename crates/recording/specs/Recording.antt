@@ -1,5 +1,4 @@
--- A RECORDING, Ask 4: text, a personalisation sheet and then a line for each tap with request, draw, answers and expected response. Every definition is
--- total. Assumes nothing.
+-- A RECORDING, Ask 4, is text: a personalisation sheet, and after it one line for each tap. Every definition is total. Assumes nothing.
 use Prim.Native.Nat.{ℕ, zero, suc}
 use mathlib.Core.List.{List, [], _∷_}
 use mathlib.Core.Bool.{cond}

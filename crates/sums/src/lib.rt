@@ -113,7 +113,7 @@ pub fn count(s: Sums, request: &[u8], response: &[u8]) -> Sums
     }
 }
 
-// The live wallet's new SIGNs, 0 without one.
+// The new SIGNs of the wallet that lives; where none lives, 0.
 pub fn live_signs(s: Sums) -> u32
     ensures { λ r. ⌜ r ≡ liveSigns s ⌝ }
 {

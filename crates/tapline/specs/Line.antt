@@ -1,4 +1,4 @@
--- THE LINE OF A TAP, Ask 4: request, draw, answers and expected response in hex, parted by tabs. Every definition is total. Assumes nothing.
+-- THE LINE OF A TAP, Ask 4: four fields of hex with a tab between each two. Every definition is total. Assumes nothing.
 use Prim.Native.Nat.{ℕ, _%_}
 use mathlib.Core.List.{List}
 use mathlib.Core.Bool.{Bool, _&&_, _||_}
