@@ -12,7 +12,10 @@ use Rattle.card.specs.declared.Key.{Key}
 use Rattle.card.specs.declared.Block.{Block}
 use Rattle.card.specs.declared.Issuer.{Issuer}
 use Rattle.card.specs.declared.Last.{Last}
+use Rattle.card.specs.declared.Front.{Front}
+use Rattle.card.specs.declared.Held.{Held}
 use Rattle.card.specs.declared.Face.{Face}
+use Rattle.card.specs.Layout.{keyRoom, keyShort, dataRoom, signatureSize, mostHashes, imageSize}
 use Rattle.card.specs.Image.{decode}
 
 abbrev pub every : List Bool → Bool
@@ -62,18 +65,18 @@ stateTests g w =
 
 -- "a public key is present exactly when Loaded": secp256k1, 65 bytes starting 04, or ed25519, 32; unused room is zero
 unfoldable pub keySize : ℕ → ℕ → ℕ
-keySize curve status = cond (eqb status 2) (cond (eqb curve 1) 65 32) 0
+keySize curve status = cond (eqb status 2) (cond (eqb curve 1) keyRoom keyShort) 0
 
 abbrev pub keyTests : ℕ → ℕ → Key → List Bool
 keyTests curve status k =
     eqb (k .size) (keySize curve status)
-    ∷ (not (eqb (k .size) 65) || eqb (getD (k .bytes) 0 0) 4)
+    ∷ (not (eqb (k .size) keyRoom) || eqb (getD (k .bytes) 0 0) 4)
     ∷ allZero (drop (k .size) (k .bytes))
     ∷ []
 
 -- data of 0 to 512 bytes; unused room is zero
 abbrev pub blockTests : Block → List Bool
-blockTests b = leb (b .size) 512 ∷ allZero (drop (b .size) (b .bytes)) ∷ []
+blockTests b = leb (b .size) dataRoom ∷ allZero (drop (b .size) (b .bytes)) ∷ []
 
 unfoldable pub okBlock : Block → Bool
 okBlock b = every (blockTests b)
@@ -84,7 +87,7 @@ issuerTests x = okBlock (x .block) ∷ (leb 1 (x .block .size) || allZero (drop 
 
 -- 0 to 10 last signatures; unused room is zero
 abbrev pub lastTests : Last → List Bool
-lastTests l = leb (l .count) 10 ∷ allZero (drop (l .count * 64) (l .signatures)) ∷ []
+lastTests l = leb (l .count) mostHashes ∷ allZero (drop (l .count * signatureSize) (l .signatures)) ∷ []
 
 unfoldable pub okFlags : Flags → Bool
 okFlags g = every (flagTests g)
@@ -105,21 +108,29 @@ unfoldable pub okLast : Last → Bool
 okLast l = every (lastTests l)
 
 -- THE TESTS of a card; the codes may be any
-abbrev pub faceTests : Face → List Bool
-faceTests f =
-    okFlags (f .flags)
-    ∷ okRanges (f .fixed) (f .wallet)
-    ∷ okState (f .flags) (f .wallet)
-    ∷ okKey (f .fixed .curve) (f .wallet .status) (f .key)
-    ∷ okBlock (f .user)
-    ∷ okBlock (f .protected)
-    ∷ okIssuer (f .issuer)
-    ∷ okLast (f .last)
+abbrev pub frontTests : Front → List Bool
+frontTests x =
+    okFlags (x .flags)
+    ∷ okRanges (x .fixed) (x .wallet)
+    ∷ okState (x .flags) (x .wallet)
+    ∷ okKey (x .fixed .curve) (x .wallet .status) (x .key)
     ∷ []
+
+abbrev pub heldTests : Held → List Bool
+heldTests x = okBlock (x .user) ∷ okBlock (x .protected) ∷ okIssuer (x .issuer) ∷ []
+
+unfoldable pub okFront : Front → Bool
+okFront x = every (frontTests x)
+
+unfoldable pub okHeld : Held → Bool
+okHeld x = every (heldTests x)
+
+abbrev pub faceTests : Face → List Bool
+faceTests f = okFront (f .front) ∷ okHeld (f .held) ∷ okLast (f .last) ∷ []
 
 unfoldable pub okFace : Face → Bool
 okFace f = every (faceTests f)
 
 -- an image is a card
 unfoldable pub isCard : List ℕ → Bool
-isCard img = eqb (length img) 2429 && okFace (decode img .face)
+isCard img = eqb (length img) imageSize && okFace (decode img .face)

@@ -17,7 +17,9 @@ use Rattle.card.specs.declared.Issuer.{Issuer}
 use Rattle.card.specs.declared.Last.{Last}
 use Rattle.card.specs.declared.Face.{Face}
 use Rattle.card.specs.declared.Front.{Front}
+use Rattle.card.specs.declared.Held.{Held}
 use Rattle.card.specs.declared.Card.{Card}
+use Rattle.card.specs.Layout.{pinSize, keyRoom, dataRoom, signatureSize, lastRoom, top32}
 
 -- kept in one, two or four bytes
 abbrev pub u8 : ℕ → ℕ
@@ -50,7 +52,8 @@ risen x = record { checks = x .checks; validations = x .validations; user = u32 
 
 -- F9: the counter rises by one and stays at its top
 abbrev pub checkedOnce : Counters → Counters
-checkedOnce x = record { checks = cond (ltb (x .checks) 4294967295) (x .checks + 1) (x .checks); validations = x .validations; user = x .user; protected = x .protected }
+checkedOnce x =
+    record { checks = cond (ltb (x .checks) top32) (x .checks + 1) (x .checks); validations = x .validations; user = x .user; protected = x .protected }
 
 -- F4: it rises
 abbrev pub validatedOnce : Counters → Counters
@@ -58,16 +61,16 @@ validatedOnce x = record { checks = x .checks; validations = u16 (x .validations
 
 -- WHAT IS HELD: bytes with their size, and room that is zero after them
 abbrev pub heldKey : List ℕ → Key
-heldKey k = record { size = u8 (length k); bytes = pad 65 k }
+heldKey k = record { size = u8 (length k); bytes = pad keyRoom k }
 
 abbrev pub heldBlock : List ℕ → Block
-heldBlock d = record { size = u16 (length d); bytes = pad 512 d }
+heldBlock d = record { size = u16 (length d); bytes = pad dataRoom d }
 
 abbrev pub heldIssuer : List ℕ → List ℕ → ℕ → Issuer
-heldIssuer d s n = record { block = heldBlock d; signature = pad 64 s; counter = n }
+heldIssuer d s n = record { block = heldBlock d; signature = pad signatureSize s; counter = n }
 
 abbrev pub heldLast : List ℕ → Last
-heldLast s = record { count = u8 (length s / 64); signatures = pad 640 s }
+heldLast s = record { count = u8 (length s / signatureSize); signatures = pad lastRoom s }
 
 -- and the bytes of it
 unfoldable pub keyOf : Key → List ℕ
@@ -77,74 +80,71 @@ unfoldable pub blockOf : Block → List ℕ
 blockOf b = part (b .bytes) 0 (b .size)
 
 unfoldable pub lastOf : Last → List ℕ
-lastOf l = part (l .signatures) 0 (l .count * 64)
+lastOf l = part (l .signatures) 0 (l .count * signatureSize)
 
 -- A FRESH CARD is Empty with Signed_Hashes, the wallet number and every counter 0, no last signatures and all data empty
 abbrev pub noWallet : Wallet
 noWallet = record { status = 1; number = 0; remaining = 0; signed = 0 }
 
 abbrev pub noKey : Key
-noKey = record { size = 0; bytes = replicate 65 0 }
+noKey = record { size = 0; bytes = replicate keyRoom 0 }
 
 abbrev pub noCounters : Counters
 noCounters = record { checks = 0; validations = 0; user = 0; protected = 0 }
 
 abbrev pub noBlock : Block
-noBlock = record { size = 0; bytes = replicate 512 0 }
+noBlock = record { size = 0; bytes = replicate dataRoom 0 }
 
 abbrev pub noIssuer : Issuer
-noIssuer = record { block = noBlock; signature = replicate 64 0; counter = 0 }
+noIssuer = record { block = noBlock; signature = replicate signatureSize 0; counter = 0 }
 
 abbrev pub noLast : Last
-noLast = record { count = 0; signatures = replicate 640 0 }
+noLast = record { count = 0; signatures = replicate lastRoom 0 }
 
 unfoldable pub fresh : Fixed → Flags → Codes → Card
 fresh x g k =
     record {
-      face = record { fixed = x; flags = g; wallet = noWallet; key = noKey; counters = noCounters; user = noBlock; protected = noBlock; issuer = noIssuer; last = noLast };
+      face = record {
+        front = record { fixed = x; flags = g; wallet = noWallet; key = noKey; counters = noCounters };
+        held = record { user = noBlock; protected = noBlock; issuer = noIssuer };
+        last = noLast;
+      };
       codes = k;
     }
 
--- THE FRONT of a face: all but the data and the last signatures; and the face with that front and nothing held
-abbrev pub front : Face → Front
-front f = record { fixed = f .fixed; flags = f .flags; wallet = f .wallet; key = f .key; counters = f .counters; issuer = f .issuer .counter; last = f .last .count }
-
-abbrev pub bare : Front → Face
-bare x =
-    record {
-      fixed = x .fixed;
-      flags = x .flags;
-      wallet = x .wallet;
-      key = x .key;
-      counters = x .counters;
-      user = noBlock;
-      protected = noBlock;
-      issuer = record { block = noBlock; signature = replicate 64 0; counter = x .issuer };
-      last = record { count = x .last; signatures = replicate 640 0 };
-    }
-
--- a card with another face
 abbrev pub faced : Face → Card → Card
 faced f c = record { face = f; codes = c .codes }
 
--- THE FACE with one group anew
+-- A FACE with one group anew
+abbrev pub fronted : Front → Face → Face
+fronted x f = record { front = x; held = f .held; last = f .last }
+
+abbrev pub holding : Held → Face → Face
+holding x f = record { front = f .front; held = x; last = f .last }
+
 abbrev pub withWallet : Wallet → Face → Face
-withWallet x f = record { fixed = f .fixed; flags = f .flags; wallet = x; key = f .key; counters = f .counters; user = f .user; protected = f .protected; issuer = f .issuer; last = f .last }
+withWallet x f =
+    let g : Front = f .front in
+    fronted (record { fixed = g .fixed; flags = g .flags; wallet = x; key = g .key; counters = g .counters }) f
 
 abbrev pub withKey : Key → Face → Face
-withKey x f = record { fixed = f .fixed; flags = f .flags; wallet = f .wallet; key = x; counters = f .counters; user = f .user; protected = f .protected; issuer = f .issuer; last = f .last }
+withKey x f =
+    let g : Front = f .front in
+    fronted (record { fixed = g .fixed; flags = g .flags; wallet = g .wallet; key = x; counters = g .counters }) f
 
 abbrev pub withCounters : Counters → Face → Face
-withCounters x f = record { fixed = f .fixed; flags = f .flags; wallet = f .wallet; key = f .key; counters = x; user = f .user; protected = f .protected; issuer = f .issuer; last = f .last }
+withCounters x f =
+    let g : Front = f .front in
+    fronted (record { fixed = g .fixed; flags = g .flags; wallet = g .wallet; key = g .key; counters = x }) f
 
 abbrev pub withUser : Block → Face → Face
-withUser x f = record { fixed = f .fixed; flags = f .flags; wallet = f .wallet; key = f .key; counters = f .counters; user = x; protected = f .protected; issuer = f .issuer; last = f .last }
+withUser x f = holding (record { user = x; protected = f .held .protected; issuer = f .held .issuer }) f
 
 abbrev pub withProtected : Block → Face → Face
-withProtected x f = record { fixed = f .fixed; flags = f .flags; wallet = f .wallet; key = f .key; counters = f .counters; user = f .user; protected = x; issuer = f .issuer; last = f .last }
+withProtected x f = holding (record { user = f .held .user; protected = x; issuer = f .held .issuer }) f
 
 abbrev pub withIssuer : Issuer → Face → Face
-withIssuer x f = record { fixed = f .fixed; flags = f .flags; wallet = f .wallet; key = f .key; counters = f .counters; user = f .user; protected = f .protected; issuer = x; last = f .last }
+withIssuer x f = holding (record { user = f .held .user; protected = f .held .protected; issuer = x }) f
 
 abbrev pub withLast : Last → Face → Face
-withLast x f = record { fixed = f .fixed; flags = f .flags; wallet = f .wallet; key = f .key; counters = f .counters; user = f .user; protected = f .protected; issuer = f .issuer; last = x }
+withLast x f = record { front = f .front; held = f .held; last = x }

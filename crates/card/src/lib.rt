@@ -1,36 +1,23 @@
 // What the card is made of, 01: its values in small groups, all but the codes as its face; the fresh card; and the wallet's
 // counters and status as one small value, which create, sign and purge take and hand back.
+pub mod layout;
+
 ghost use mathlib.Core.Path.{_≡_};
 ghost use mathlib.Core.Bool.{cond};
 ghost use lib.Dec.{ltb};
 ghost use Prim.Native.Nat.{_+_, _-_};
+ghost use Rattle.card.specs.Layout.{top32};
 ghost use Rattle.card.specs.Values.{created, spent, purged, afterPurge, risen, checkedOnce, validatedOnce, fresh};
-
-pub const EMPTY: u8 = 1;
-
-pub const LOADED: u8 = 2;
-
-pub const PURGED: u8 = 3;
-
-pub const SECP256K1: u8 = 1;
-
-pub const ED25519: u8 = 2;
-
-// The length of an image.
-pub const IMAGE_SIZE: usize = 2429;
-
-// The room that a buffer for an image has at least.
-pub const IMAGE_ROOM: usize = 4096;
 
 // The codes: what no answer may tell.
 pub struct Codes {
-    pub pin1: [u8; 32],
-    pub pin2: [u8; 32],
+    pub pin1: [u8; Codes::PIN_SIZE],
+    pub pin2: [u8; Codes::PIN_SIZE],
 }
 
 pub struct Fixed {
-    pub cid: [u8; 8],
-    pub cvc: [u8; 3],
+    pub cid: [u8; Fixed::CID_SIZE],
+    pub cvc: [u8; Fixed::CVC_SIZE],
     pub curve: u8,
     pub max: u32,
 }
@@ -55,7 +42,7 @@ pub struct Wallet {
 // Wallet_PublicKey: the first `size` bytes.
 pub struct Key {
     pub size: u8,
-    pub bytes: [u8; 65],
+    pub bytes: [u8; Key::ROOM],
 }
 
 pub struct Counters {
@@ -68,43 +55,42 @@ pub struct Counters {
 // User_Data, User_ProtectedData, Issuer_Data: the first `size` bytes.
 pub struct Block {
     pub size: u16,
-    pub bytes: [u8; 512],
+    pub bytes: [u8; Block::ROOM],
 }
 
 pub struct Issuer {
     pub block: Block,
-    pub signature: [u8; 64],
+    pub signature: [u8; Last::SIGNATURE_SIZE],
     pub counter: u32,
 }
 
 // The last signatures: the first `count`, of 64 bytes each.
 pub struct Last {
     pub count: u8,
-    pub signatures: [u8; 640],
+    pub signatures: [u8; Last::ROOM],
 }
 
-// All but the codes.
-pub struct Face {
-    pub fixed: Fixed,
-    pub flags: Flags,
-    pub wallet: Wallet,
-    pub key: Key,
-    pub counters: Counters,
-    pub user: Block,
-    pub protected: Block,
-    pub issuer: Issuer,
-    pub last: Last,
-}
-
-// The front of a face, a few bytes: all but the data and the last signatures, of which it has the issuer's counter and how many.
+// The groups of a few bytes.
 pub struct Front {
     pub fixed: Fixed,
     pub flags: Flags,
     pub wallet: Wallet,
     pub key: Key,
     pub counters: Counters,
-    pub issuer: u32,
-    pub last: u8,
+}
+
+// User and issuer data.
+pub struct Held {
+    pub user: Block,
+    pub protected: Block,
+    pub issuer: Issuer,
+}
+
+// All but the codes.
+pub struct Face {
+    pub front: Front,
+    pub held: Held,
+    pub last: Last,
 }
 
 pub struct Card {
@@ -112,13 +98,60 @@ pub struct Card {
     pub codes: Codes,
 }
 
+impl Codes {
+    pub const PIN_SIZE: usize = 32;
+}
+
+impl Fixed {
+    pub const CID_SIZE: usize = 8;
+
+    pub const CVC_SIZE: usize = 3;
+
+    // The curves.
+    pub const SECP256K1: u8 = 1;
+
+    pub const ED25519: u8 = 2;
+}
+
+impl Key {
+    // A key of secp256k1, and one of ed25519.
+    pub const ROOM: usize = 65;
+
+    pub const SHORT: usize = 32;
+}
+
+impl Block {
+    pub const ROOM: usize = 512;
+}
+
+impl Last {
+    pub const SIGNATURE_SIZE: usize = 64;
+
+    // The most hashes of a SIGN, and the room that their signatures take.
+    pub const MOST_HASHES: usize = 10;
+
+    pub const ROOM: usize = Last::MOST_HASHES * Last::SIGNATURE_SIZE;
+}
+
 impl Wallet {
+    // Status.
+    pub const EMPTY: u8 = 1;
+
+    pub const LOADED: u8 = 2;
+
+    pub const PURGED: u8 = 3;
+
+    pub const TOP_NUMBER: u16 = 65535;
+
+    // Of Signed_Hashes.
+    pub const TOP: u32 = 4294967295;
+
     // F8: Loaded, number one more, Remaining is Max.
     pub fn create(self, max: u32) -> Wallet
         ensures { λ r. ⌜ r ≡ created max self ⌝ }
     {
         Wallet {
-            status: LOADED,
+            status: Wallet::LOADED,
             number: std::num::wrapping_add_u16(self.number, 1),
             remaining: max,
             signed: self.signed,
@@ -154,9 +187,9 @@ fn after_purge(reusable: u8) -> u8
     ensures { λ r. ⌜ r ≡ afterPurge reusable ⌝ }
 {
     if reusable == 1 {
-        return EMPTY;
+        return Wallet::EMPTY;
     }
-    PURGED
+    Wallet::PURGED
 }
 
 fn less(n: u32, by: u32) -> u32
@@ -167,12 +200,16 @@ fn less(n: u32, by: u32) -> u32
 
 // One more, and the top stays.
 fn one_more(n: u32) -> u32
-    ensures { λ r. ⌜ r ≡ cond (ltb n 4294967295) (n + 1) n ⌝ }
+    ensures { λ r. ⌜ r ≡ cond (ltb n top32) (n + 1) n ⌝ }
 {
-    if n < 4294967295 { n + 1 } else { n }
+    if n < Counters::TOP { n + 1 } else { n }
 }
 
 impl Counters {
+    pub const TOP: u32 = 4294967295;
+
+    pub const TOP_VALIDATIONS: u16 = 65535;
+
     // FB: both user counters, going from 4,294,967,295 to 0.
     pub fn signed(self) -> Counters
         ensures { λ r. ⌜ r ≡ risen self ⌝ }
@@ -217,20 +254,20 @@ impl Card {
     {
         let none = Block {
             size: 0,
-            bytes: [0u8; 512],
+            bytes: [0u8; Block::ROOM],
         };
-        let face = Face {
+        let front = Front {
             fixed,
             flags,
             wallet: Wallet {
-                status: EMPTY,
+                status: Wallet::EMPTY,
                 number: 0,
                 remaining: 0,
                 signed: 0,
             },
             key: Key {
                 size: 0,
-                bytes: [0u8; 65],
+                bytes: [0u8; Key::ROOM],
             },
             counters: Counters {
                 checks: 0,
@@ -238,18 +275,21 @@ impl Card {
                 user: 0,
                 protected: 0,
             },
+        };
+        let held = Held {
             user: none,
             protected: none,
             issuer: Issuer {
                 block: none,
-                signature: [0u8; 64],
+                signature: [0u8; Last::SIGNATURE_SIZE],
                 counter: 0,
             },
-            last: Last {
-                count: 0,
-                signatures: [0u8; 640],
-            },
         };
+        let last = Last {
+            count: 0,
+            signatures: [0u8; Last::ROOM],
+        };
+        let face = Face { front, held, last };
         Card { face, codes }
     }
 }

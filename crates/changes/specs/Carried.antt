@@ -4,14 +4,20 @@ use mathlib.Core.List.{List, []}
 use mathlib.Core.Bool.{cond}
 use lib.ListN.{length}
 use lib.Dec.{eqb}
+use Rattle.fields.specs.Fields.{View}
 use Rattle.card.specs.declared.Card.{Card}
+use Rattle.card.specs.Layout.{imageSize}
 use Rattle.card.specs.Image.{encode, decode}
 use Rattle.manual.specs.declared.Command.{Command}
 use Rattle.manual.specs.Commands.{row}
 
-abbrev pub carriedCard : Command → Card → List ℕ → List ℕ → Card
-carriedCard k c p a = record { face = row k .next (c .face) p a; codes = row k .recode p (c .codes) }
+abbrev pub carriedCard : Command → Card → View → List ℕ → Card
+carriedCard k c v a = record { face = row k .next (c .face) v a; codes = row k .recode v (c .codes) }
 
 -- its image, made from that of the card before; of other bytes, nothing
-unfoldable pub carriedImage : Command → List ℕ → List ℕ → List ℕ → List ℕ
-carriedImage k m p a = cond (eqb (length m) 2429) (encode (carriedCard k (decode m) p a)) []
+unfoldable pub carriedImage : Command → List ℕ → View → List ℕ → List ℕ
+carriedImage k m v a = cond (eqb (length m) imageSize) (encode (carriedCard k (decode m) v a)) []
+
+-- and the image as it was
+unfoldable pub keptImage : List ℕ → List ℕ
+keptImage m = cond (eqb (length m) imageSize) m []

@@ -1,10 +1,11 @@
 // Field cases, run. tests/fields.py wrote them, and what must be printed, from 01 "Requests and fields". A line of standard
 // input is a payload in hex. After `*` the payload is also cut at every byte; after `+` stand a value's length and a buffer's
-// size, four bytes each, for the writer. Each function here is proved safe and ending; the promises are those of `fields`.
+// size, four bytes each, for the writer. Each function here is proved safe and ending; the promises are those of `fields` and
+// `sent`.
 use fields::Step;
 use libc::STDIN_FILENO;
 use libc::STDOUT_FILENO;
-use wire::Check;
+use sent::Places;
 ghost use Prim.Native.Nat.{_+_, _≤_, _<_};
 ghost use lib.ListN.{length};
 
@@ -70,10 +71,10 @@ fn say_fields(p: &[u8]) {
     }
 }
 
-fn say_lookup(p: &[u8]) {
-    if fields::has(p, TAG) {
+fn say_lookup(p: &[u8], at: &Places) {
+    if sent::has(p, at, TAG) {
         say(b";10=");
-        say_hex(fields::value(p, TAG));
+        say_hex(sent::value(p, at, TAG));
         say(b"\n");
     } else {
         say(b";10 absent\n");
@@ -81,12 +82,12 @@ fn say_lookup(p: &[u8]) {
 }
 
 fn report(p: &[u8]) {
-    match fields::well_formed(p) {
-        Check::Fine => {
-            say_fields(p);
-            say_lookup(p);
-        }
-        Check::Failed => say(b"malformed\n"),
+    let mut at = sent::none();
+    if sent::fill(p, &mut at) {
+        say_fields(p);
+        say_lookup(p, &at);
+    } else {
+        say(b"malformed\n");
     }
 }
 
@@ -108,9 +109,11 @@ fn between(s: &[u8], a: usize, e: usize) -> &[u8] {
 }
 
 fn say_back(p: &[u8], v: &[u8]) {
-    if fields::holds(p, TAG, v) {
+    let mut at = sent::none();
+    sent::fill(p, &mut at);
+    if sent::holds(p, &at, TAG, v) {
         say(b" same");
-    } else if fields::has(p, TAG) {
+    } else if sent::has(p, &at, TAG) {
         say(b" other");
     } else {
         say(b" absent");

@@ -1,4 +1,5 @@
--- Laws of the field walk: what a step tells of its bounds, and the one equation that unfolds the run of fields, in which no count of turns is left. Assumes nothing.
+-- Laws of the field walk: what a step tells of its bounds, and the one equation that unfolds the run of fields, in which no count of turns is left;
+-- and of the writers. Assumes nothing.
 use Prim.Native.Nat.{ℕ, zero, suc, _+_, _-_, _≤_, _<_}
 use native.Mathlib.Omega.{arith}
 use mathlib.Core.Path.{_≡_, refl, sym, ap, _∙_, subst}
@@ -9,11 +10,10 @@ use lib.Dec.{leb, ltb, eqb}
 use borrow.Author.Tests.{leb-true, leb-false, le-leb, lt-leb, lt-ltb, le-ltb, eq-eqb, ne-eqb}
 use Rattle.fields.specs.declared.Step.{Step}
 use Rattle.fields.specs.declared.Step.the-variants.{Field, Bad, End}
-use Rattle.fields.specs.declared.Found.{Found}
-use Rattle.fields.specs.declared.Found.the-variants.{At, Absent}
-use Rattle.wire.specs.Wire.{room, Wrote, Wrotes, Runs, joined, put, fit, placed, be2}
-use Rattle.wire.proofs.Laws.{room-true, room-false, by-cases, runs, then, tested, refused, put-nil, wrote-none, wrote-more, wrote-append, joined-append, all-run}
-use Rattle.fields.specs.Fields.{Told, headOf, tlv, Tagged, fld, each, written, fieldAt, stepAt, Run, one, goOn, runN, restFrom, firstIn}
+use Rattle.fields.specs.declared.Found.the-variants.{At}
+use Rattle.wire.specs.Wire.{room, Wrote, Runs, put, fit, placed, be2}
+use Rattle.wire.proofs.Laws.{room-true, room-false, by-cases, runs, then, tested, refused, put-nil}
+use Rattle.fields.specs.Fields.{headOf, tlv, Tagged, each, fieldAt, stepAt, Run, ended, broken, one, goOn, runN, restFrom, firstIn}
 
 -- what a step tells: a field ends past where it started and within the payload
 abbrev pub Bounds : List ℕ → ℕ → Step → Type 0
@@ -67,30 +67,31 @@ pub bounds-of : (s : List ℕ) (at : ℕ) {st : Step} → stepAt s at ≡ st →
 bounds-of s at e = subst (Bounds s at) e (bounds s at)
 
 -- the two ways that a lookup meets a field
-pub hit : (t : ℕ) (s : List ℕ) (at : ℕ) {u b n x : ℕ} → stepAt s at ≡ Field u b n x → u ≡ t → firstIn t (restFrom s at) ≡ At b n x
+pub hit : (t : ℕ) (s : List ℕ) (at : ℕ) {u b n x : ℕ} → stepAt s at ≡ Field u b n x → u ≡ t → firstIn t (restFrom s at) ≡ At b n
 hit t s at e h = ap (firstIn t) (after s at e) ∙ simp (eq-eqb _ _ h)
 
 pub miss : (t : ℕ) (s : List ℕ) (at : ℕ) {u b n x : ℕ} → stepAt s at ≡ Field u b n x → (u ≡ t → ⊥) → firstIn t (restFrom s at) ≡ firstIn t (restFrom s x)
 miss t s at e h = ap (firstIn t) (after s at e) ∙ simp (ne-eqb _ _ h)
 
--- a field that is found stands within the payload
-abbrev pub Inside : List ℕ → Found → Type 0
-Inside s (At b n x) = b + n ≤ length s
-Inside s Absent = Unit {0}
+-- every value of a run starts past the payload's front and stands within it
+abbrev pub Within : List ℕ → Run → Type 0
+Within s ended = Unit {0}
+Within s broken = Unit {0}
+Within s (one f r) = ((0 < f .start) × (f .start + f .len ≤ length s)) × Within s r
 
-inside-step : (t : ℕ) (s : List ℕ) (at : ℕ) (st : Step) → Bounds s at st → (k : ℕ → Run) → ((x : ℕ) → Inside s (firstIn t (k x))) → Inside s (firstIn t (goOn st k))
-inside-step t s at (Field u b n x) f k h = by-cases (Inside s) (eqb u t) (λ e. omega arith) (λ e. h x)
-inside-step t s at Bad f k h = tt
-inside-step t s at End f k h = tt
+within-step : (s : List ℕ) (at : ℕ) (st : Step) → Bounds s at st → (k : ℕ → Run) → ((x : ℕ) → Within s (k x)) → Within s (goOn st k)
+within-step s at (Field t b n x) f k h = ((omega arith, omega arith), h x)
+within-step s at Bad f k h = tt
+within-step s at End f k h = tt
 
-inside-run : (t : ℕ) (s : List ℕ) (n at : ℕ) → Inside s (firstIn t (runN n s at))
+within-run : (s : List ℕ) (n at : ℕ) → Within s (runN n s at)
 unfolding runN
-inside-run t s zero at = tt
-inside-run t s (suc n) at = inside-step t s at (stepAt s at) (bounds s at) (runN n s) (inside-run t s n)
+within-run s zero at = tt
+within-run s (suc n) at = within-step s at (stepAt s at) (bounds s at) (runN n s) (within-run s n)
 
-pub inside : (t : ℕ) (s : List ℕ) (at : ℕ) {f : Found} → firstIn t (restFrom s at) ≡ f → Inside s f
+pub within : (s : List ℕ) (at : ℕ) → Within s (restFrom s at)
 unfolding restFrom
-inside t s at e = subst (Inside s) e (inside-run t s (length s) at)
+within s at = within-run s (length s) at
 
 -- WRITING: the head of a field, by its length
 pub head-short : (t n : ℕ) → n < 255 → headOf t n ≡ t ∷ n ∷ []
@@ -119,47 +120,11 @@ pub tlv-none : (t : ℕ) (v : List ℕ) → 65535 < length v → tlv t v ≡ []
 unfolding tlv
 tlv-none t v h = simp (lt-leb _ _ h)
 
-tlv-small : (t : ℕ) (v : List ℕ) → length (tlv t v) ≤ length v + 4
-unfolding tlv
-tlv-small t v = by-cases (λ (l : List ℕ). length l ≤ length v + 4) (leb (length v) 65535) {x = headOf t (length v) ++ v} {y = []} (λ e. simp length-append (omega (arith, head-small t (length v)))) (λ e. omega arith)
-
--- fields one after the other, with a bound on their bytes: a response, from its last field to its first
-pub none : {d : List ℕ} {at : ℕ} → Told 0 d at [] d at
-unfolding each written joined
-none = record { list = wrote-none; small = omega arith }
-
-pub field : {d : List ℕ} {at : ℕ} {d′ : List ℕ} {r : ℕ} {fs : List Tagged} {d″ : List ℕ} {r′ n : ℕ} (k t : ℕ) (v : List ℕ) → Wrote d at (tlv t v) d′ r → length v ≤ k → Told n d′ r fs d″ r′ → Told (k + 4 + n) d at (fld t v ∷ fs) d″ r′
-unfolding each written joined
-field {d} {at} {d′} {r} {fs} {d″} {r′} {n} k t v w h u = record {
-  list = wrote-more w (u .list);
-  small = let s = tlv-small t v in let z = u .small in simp length-append (omega arith);
-}
-
--- any larger bound will do
-pub loosely : {n : ℕ} {d : List ℕ} {at : ℕ} {fs : List Tagged} {d′ : List ℕ} {r : ℕ} (m : ℕ) → n ≤ m → Told n d at fs d′ r → Told m d at fs d′ r
-loosely m h u = record { list = u .list; small = omega (arith, u .small) }
-
 -- fields after fields
-each-append : (fs gs : List Tagged) → each (fs ++ gs) ≡ each fs ++ each gs
+pub each-append : (fs gs : List Tagged) → each (fs ++ gs) ≡ each fs ++ each gs
 unfolding each
 each-append [] gs = refl
 each-append (f ∷ fs) gs = ap (λ l. tlv (f .tag) (f .value) ∷ l) (each-append fs gs)
-
-pub told-append : {n m : ℕ} {d : List ℕ} {at : ℕ} {fs : List Tagged} {d′ : List ℕ} {r : ℕ} {gs : List Tagged} {d″ : List ℕ} {r′ : ℕ} → Told n d at fs d′ r → Told m d′ r gs d″ r′ → Told (n + m) d at (fs ++ gs) d″ r′
-unfolding written
-told-append {n} {m} {d} {at} {fs} {d′} {r} {gs} {d″} {r′} x y =
-    let a = x .small in
-    let b = y .small in
-    let e = each-append fs gs in
-    record {
-      list = subst (λ (l : List (List ℕ)). Wrotes d at l d″ r′) (sym e) (wrote-append (x .list) (y .list));
-      small = subst (λ (l : List (List ℕ)). length (joined l) ≤ n + m) (sym e) (rw (joined-append (each fs) (each gs)) (simp length-append (omega arith)));
-    }
-
--- where there is room for all of them, the fields stand there
-pub told-run : {n : ℕ} {d : List ℕ} {at : ℕ} {fs : List Tagged} {d′ : List ℕ} {r : ℕ} → Told n d at fs d′ r → Runs d at (written fs) d′ r
-unfolding written
-told-run u = all-run (u .list)
 
 -- a field that was tested for room as a whole
 pub size-alike : (t n : ℕ) → length (headOf t n) ≡ length (headOf 0 n)
@@ -182,7 +147,8 @@ module _ (t : ℕ) (v : List ℕ) (h : length v ≤ 65535) where
   plain-length : length (tlv t v) ≡ length (headOf 0 (length v)) + length v
   plain-length = ap length (tlv-plain t v h) ∙ length-append (headOf t (length v)) v ∙ ap (λ n. n + length v) (size-alike t (length v))
 
-  pub whole-field : {d : List ℕ} {at : ℕ} → room (length d) at (length (headOf 0 (length v)) + length v) ≡ true → {d′ : List ℕ} {r : ℕ} {d″ : List ℕ} {r′ : ℕ} → Wrote d at (headOf t (length v)) d′ r → Wrote d′ r v d″ r′ → Wrote d at (tlv t v) d″ r′
+  pub whole-field : {d : List ℕ} {at : ℕ} → room (length d) at (length (headOf 0 (length v)) + length v) ≡ true → {d′ : List ℕ} {r : ℕ} {d″ : List ℕ} {r′ : ℕ}
+      → Wrote d at (headOf t (length v)) d′ r → Wrote d′ r v d″ r′ → Wrote d at (tlv t v) d″ r′
   whole-field {d} {at} e {d′} {r} {d″} {r′} x y =
       tested (omega (arith, plain-length, room-true (length d) at (length (headOf 0 (length v)) + length v) e))
       (subst (λ (l : List ℕ). Runs d at l d″ r′) (sym (tlv-plain t v h)) (then (runs x) (runs y)))

@@ -1,4 +1,5 @@
--- The drill sheet's payloads, 01 "Drill sheet", rows 1 to 4, as one table: each row is the run of fields that the definitions make of the bytes. Assumes nothing.
+-- The drill sheet's payloads, 01 "Drill sheet", rows 1 to 4, as one table: each row is the run of fields that the definitions
+-- make of the bytes. Assumes nothing.
 use Prim.Native.Nat.{ℕ}
 use mathlib.Core.Path.{_≡_, refl}
 use mathlib.Core.List.{[], _∷_}

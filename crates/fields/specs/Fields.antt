@@ -1,7 +1,7 @@
--- Fields, 01 "Requests and fields": what stands at a position, the run of fields from a position on, and the first field with a tag.
+-- Fields, 01 "Requests and fields": what stands at a position, the run of fields from a position on, and a view of a payload, by the first field with each tag.
 use Prim.Native.Nat.{ℕ, zero, suc, _+_, _-_, _*_, _≤_}
 use mathlib.Core.List.{List, [], _∷_, _++_}
-use Rattle.wire.specs.Wire.{part, be2, alike, Wrotes, joined}
+use Rattle.wire.specs.Wire.{part, be2, alike, joined}
 use mathlib.Core.Bool.{Bool, true, false, cond, _||_}
 use lib.ListN.{length, getD}
 use lib.Dec.{ltb, leb, eqb}
@@ -55,33 +55,42 @@ whole ended = true
 whole broken = false
 whole (one f r) = whole r
 
--- where the first field with the tag stands, and whether there is one
-abbrev pub found : Found → Bool
-found Absent = false
-found (At b n x) = true
-
+-- where the first value with the tag stands
 abbrev pub firstIn : ℕ → Run → Found
 firstIn t ended = Absent
 firstIn t broken = Absent
-firstIn t (one f r) = cond (eqb (f .tag) t) (At (f .start) (f .len) (f .next)) (firstIn t r)
+firstIn t (one f r) = cond (eqb (f .tag) t) (At (f .start) (f .len)) (firstIn t r)
 
--- the field with the tag: its value (nothing where it is absent), whether it is there and holds the code
+-- A VIEW of a payload: its bytes, and where the first value with each tag stands in them. It is all that a command reads
+pub record View : Type 0 where
+  pub bytes : List ℕ
+  pub at : ℕ → Found
+
+-- the payload's own
+unfoldable pub viewOf : List ℕ → View
+viewOf p = record { bytes = p; at = λ t. firstIn t (restFrom p 0) }
+
+abbrev pub found : Found → Bool
+found Absent = false
+found (At b n) = true
+
 abbrev pub valueOf : List ℕ → Found → List ℕ
-valueOf s (At b n x) = part s b n
+valueOf s (At b n) = part s b n
 valueOf s Absent = []
 
 abbrev pub holdsAt : List ℕ → Found → List ℕ → Bool
-holdsAt s (At b n x) code = alike (part s b n) code
+holdsAt s (At b n) code = alike (part s b n) code
 holdsAt s Absent code = false
 
-unfoldable pub has : ℕ → List ℕ → Bool
-has t p = found (firstIn t (restFrom p 0))
+-- the field with the tag: whether it is there, its value (nothing where it is absent), whether it is there and holds the code
+unfoldable pub has : ℕ → View → Bool
+has t v = found (v .at t)
 
-unfoldable pub val : ℕ → List ℕ → List ℕ
-val t p = valueOf p (firstIn t (restFrom p 0))
+unfoldable pub val : ℕ → View → List ℕ
+val t v = valueOf (v .bytes) (v .at t)
 
-unfoldable pub holds : ℕ → List ℕ → List ℕ → Bool
-holds t p code = holdsAt p (firstIn t (restFrom p 0)) code
+unfoldable pub holds : ℕ → View → List ℕ → Bool
+holds t v code = holdsAt (v .bytes) (v .at t) code
 
 unfoldable pub wellFormed : List ℕ → Bool
 wellFormed p = whole (restFrom p 0)
@@ -109,7 +118,8 @@ each (f ∷ fs) = tlv (f .tag) (f .value) ∷ each fs
 unfoldable pub written : List Tagged → List ℕ
 written fs = joined (each fs)
 
--- READING a list of fields without its bytes: whether a tag is there, the first value with it (nothing where it is absent), and that each value has a length that can be written
+-- READING a list of fields without its bytes: whether a tag is there, the first value with it (nothing where it is absent), and that each
+-- value has a length that can be written
 abbrev pub among : ℕ → List Tagged → Bool
 among t [] = false
 among t (f ∷ fs) = eqb (f .tag) t || among t fs
@@ -121,8 +131,3 @@ firstOf t (f ∷ fs) = cond (eqb (f .tag) t) (f .value) (firstOf t fs)
 abbrev pub Writable : List Tagged → Type 0
 Writable [] = Unit {0}
 Writable (f ∷ fs) = (length (f .value) ≤ 65535) × Writable fs
-
--- THE PROMISE of a writer of fields: fs from `at` of d on gave d′, each where there was room, and r is the place after them; they have at most n bytes
-pub record Told (n : ℕ) (d : List ℕ) (at : ℕ) (fs : List Tagged) (d′ : List ℕ) (r : ℕ) : Type 0 where
-  pub list : Wrotes d at (each fs) d′ r
-  pub small : length (written fs) ≤ n

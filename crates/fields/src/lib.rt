@@ -1,10 +1,10 @@
-// Fields, 01 "Requests and fields": tag, length, value. The walk over a payload, the lookup, the writer; all total.
-use wire::Check;
+// Fields, 01 "Requests and fields": tag, length, value. What stands at a place of a payload, the first field with a tag,
+// the writer; all total.
 ghost use mathlib.Core.Path.{_≡_};
 ghost use Prim.Native.Nat.{_≤_, _<_};
 ghost use lib.ListN.{length};
-ghost use Rattle.wire.specs.Wire.{verdict, part, Wrote, be1, be2, be4};
-ghost use Rattle.fields.specs.Fields.{stepAt, fieldAt, restFrom, whole, firstIn, has, val, holds, wellFormed, headOf, tlv};
+ghost use Rattle.wire.specs.Wire.{Wrote, be1, be2, be4};
+ghost use Rattle.fields.specs.Fields.{stepAt, fieldAt, restFrom, firstIn, headOf, tlv};
 
 // What stands at a position of a payload.
 pub enum Step {
@@ -18,13 +18,9 @@ pub enum Step {
     End,
 }
 
-// Where a tag stands.
+// Where the first value with a tag stands: its start and its length.
 pub enum Found {
-    At {
-        start: usize,
-        len: usize,
-        next: usize,
-    },
+    At(usize, usize),
     Absent,
 }
 
@@ -69,36 +65,11 @@ pub fn step_at(s: &[u8], at: usize) -> Step
     field_at(s, at, at + 4, m)
 }
 
-// Whether the payload ends at a field's end.
-fn ends_well(s: &[u8]) -> bool
-    ensures { λ r. ⌜ r ≡ whole (restFrom (now (s .entry)) 0) ⌝ }
+// The first field with the tag, by a walk of its own.
+pub fn find(s: &[u8], tag: u8) -> Found
+    ensures { λ r. ⌜ r ≡ firstIn tag (restFrom (now (s .entry)) 0) ⌝ }
 {
-    let mut at: usize = 0;
-    loop {
-        match step_at(s, at) {
-            Step::Field {
-                tag: _,
-                start: _,
-                len: _,
-                next,
-            } => {
-                at = next;
-            }
-            Step::Bad => {
-                return false;
-            }
-            Step::End => {
-                return true;
-            }
-        }
-    }
-}
-
-// The first field with the tag, from a position on.
-pub fn find_from(s: &[u8], from: usize, tag: u8) -> Found
-    ensures { λ r. ⌜ r ≡ firstIn tag (restFrom (now (s .entry)) from) ⌝ }
-{
-    let mut at = from;
+    let mut at = 0;
     loop {
         match step_at(s, at) {
             Step::Field {
@@ -108,7 +79,7 @@ pub fn find_from(s: &[u8], from: usize, tag: u8) -> Found
                 next,
             } => {
                 if t == tag {
-                    return Found::At { start, len, next };
+                    return Found::At(start, len);
                 }
                 at = next;
             }
@@ -120,61 +91,6 @@ pub fn find_from(s: &[u8], from: usize, tag: u8) -> Found
             }
         }
     }
-}
-
-// Check 5: whether the payload ends at a field's end.
-pub fn well_formed(p: &[u8]) -> Check
-    ensures { λ r. ⌜ r ≡ verdict (wellFormed (now (p .entry))) ⌝ }
-{
-    wire::checked(ends_well(p))
-}
-
-// Whether the field is there.
-pub fn has(p: &[u8], tag: u8) -> bool
-    ensures { λ r. ⌜ r ≡ has tag (now (p .entry)) ⌝ }
-{
-    let f = find_from(p, 0, tag);
-    let Found::At {
-        start: _,
-        len: _,
-        next: _,
-    } = f
-    else {
-        return false;
-    };
-    true
-}
-
-// The value of the field, as a part of the payload; nothing where it is absent.
-pub fn value(p: &[u8], tag: u8) -> &[u8]
-    ensures { λ r. ⌜ now r ≡ val tag (now (p .entry)) ⌝ }
-{
-    let f = find_from(p, 0, tag);
-    let Found::At {
-        start,
-        len,
-        next: _,
-    } = f
-    else {
-        return &p[..0];
-    };
-    wire::part(p, start, len)
-}
-
-// Whether the field is there and holds the code.
-pub fn holds(p: &[u8], tag: u8, code: &[u8]) -> bool
-    ensures { λ r. ⌜ r ≡ holds tag (now (p .entry)) (now (code .entry)) ⌝ }
-{
-    let f = find_from(p, 0, tag);
-    let Found::At {
-        start,
-        len,
-        next: _,
-    } = f
-    else {
-        return false;
-    };
-    wire::equal(wire::part(p, start, len), code)
 }
 
 // Tag and length.

@@ -1,22 +1,28 @@
-// The checks 1 to 12, in order: the first that fails gives its number and its status word.
-use card::Codes;
-use card::Front;
+// The checks 1 to 12, in order: the first that fails gives its number and its status word. Checks 1 to 3 come before the payload is
+// walked, so that a request without one costs no walk.
+use card::Wallet;
 use manual::Command;
 use manual::Ins;
 use manual::Lc;
+use manual::Needs;
+use manual::Outcome;
 use manual::Verdict;
+use manual::tag;
+use sent::Places;
 use wire::Check;
 ghost use mathlib.Core.Path.{_≡_};
-ghost use mathlib.Core.Bool.{not, _&&_, _||_};
+ghost use mathlib.Core.Bool.{_&&_, _||_};
 ghost use lib.ListN.{getD};
 ghost use lib.Dec.{eqb};
 ghost use Rattle.wire.specs.Wire.{verdict};
 ghost use Rattle.fields.specs.Fields.{holds};
-ghost use Rattle.card.specs.Values.{bare};
-ghost use Rattle.manual.specs.Request.{payload};
-ghost use Rattle.manual.specs.Row.{plain, allowed, gateOf, headRules, formRules, entryRules, ownRules, passed};
+ghost use Rattle.sent.specs.Sent.{viewBy};
+ghost use Rattle.card.specs.Image.{decode};
+ghost use Rattle.manual.specs.Tags.{PIN1};
+ghost use Rattle.manual.specs.Row.{plain, allowed, asksCvc, gateOf, formRules};
 ghost use Rattle.manual.specs.Commands.{row};
-ghost use Rattle.manual.specs.Settle.{matched, judged};
+ghost use Rattle.checks.specs.Columns.{conditionsOf};
+ghost use Rattle.gate.specs.Gate.{cidOk, pin2Ok, cvcOk, entryOf, ownOf, headOf, laterOf};
 
 fn is_class(q: &[u8]) -> Check
     ensures { λ r. ⌜ r ≡ verdict (eqb (getD (now (q .entry)) 0 0) 0) ⌝ }
@@ -38,184 +44,177 @@ fn no_parameters(q: &[u8]) -> Check
     wire::checked(wire::both(wire::get8(q, 2) == 0, wire::get8(q, 3) == 0))
 }
 
-// Checks 1 to 3. What is tested comes first and has no order; the order is that of the lines that take it apart.
-fn header(q: &[u8]) -> Verdict
-    ensures { λ r. ⌜ r ≡ gateOf (headRules (now (q .entry))) (passed (now (q .entry))) ⌝ }
+// Checks 1 to 3: what the request is. What is tested comes first and has no order; the order is that of the lines that take it apart.
+pub fn header(q: &[u8]) -> Verdict
+    ensures { λ r. ⌜ r ≡ headOf (now (q .entry)) ⌝ }
 {
     let lc = request::lc_of(q);
     let class = is_class(q);
     let ins = request::command(q);
     let Lc::Body(_) = lc else {
-        return Verdict::Stop(1, manual::SW_LENGTH);
+        return Verdict::Stop(1, Outcome::SW_WRONG_LENGTH);
     };
     let Check::Fine = class else {
-        return Verdict::Stop(2, manual::SW_CLASS);
+        return Verdict::Stop(2, Outcome::SW_CLA_NOT_SUPPORTED);
     };
     let Ins::Listed(cmd) = ins else {
-        return Verdict::Stop(3, manual::SW_INS);
+        return Verdict::Stop(3, Outcome::SW_INS_NOT_SUPPORTED);
     };
     Verdict::Pass(cmd)
 }
 
 // Checks 4 and 5, and then what is handed over.
-fn form(q: &[u8], pass: Verdict) -> Verdict
-    ensures { λ r. ⌜ r ≡ gateOf (formRules (now (q .entry))) pass ⌝ }
+fn form(q: &[u8], whole: bool, pass: Verdict) -> Verdict
+    ensures { λ r. ⌜ r ≡ gateOf (formRules whole (now (q .entry))) pass ⌝ }
 {
     let plain = is_plain(q);
     let bare = no_parameters(q);
-    let formed = fields::well_formed(request::payload(q));
+    let formed = wire::checked(whole);
     let Check::Fine = plain else {
-        return Verdict::Stop(4, manual::SW_SESSION);
+        return Verdict::Stop(4, Outcome::SW_NEED_ENCRYPTION);
     };
     let Check::Fine = bare else {
-        return Verdict::Stop(4, manual::SW_DATA);
+        return Verdict::Stop(4, Outcome::SW_INVALID_PARAMS);
     };
     let Check::Fine = formed else {
-        return Verdict::Stop(5, manual::SW_DATA);
+        return Verdict::Stop(5, Outcome::SW_INVALID_PARAMS);
     };
     pass
 }
 
-fn has_pin1(codes: Codes, p: &[u8]) -> Check
-    ensures { λ r. ⌜ r ≡ verdict (holds 0x10 (now (p .entry)) (codes .pin1)) ⌝ }
+fn has_pin1(img: &[u8], p: &[u8], places: &Places) -> Check
+    ensures { λ r. ⌜ r ≡ verdict (holds PIN1 (viewBy (now (p .entry)) (now (places .entry))) (decode (now (img .entry)) .codes .pin1)) ⌝ }
 {
-    let pin1 = codes.pin1;
-    wire::checked(fields::holds(p, 0x10, &pin1))
+    wire::checked(sent::holds(p, places, tag::PIN1, image::pin1(img)))
 }
 
-fn has_cid(cmd: Command, face: Front, p: &[u8]) -> Check
-    ensures { λ r. ⌜ r ≡ verdict (not (row cmd .needs .cid) || holds 0x01 (now (p .entry)) (face .fixed .cid)) ⌝ }
+fn has_cid(n: Needs, img: &[u8], p: &[u8], places: &Places) -> Check
+    ensures { λ r. ⌜ r ≡ verdict (cidOk n (decode (now (img .entry))) (viewBy (now (p .entry)) (now (places .entry)))) ⌝ }
 {
-    let n = checks::needs(cmd);
     if n.cid {
-        let cid = face.fixed.cid;
-        return wire::checked(fields::holds(p, 0x01, &cid));
+        return wire::checked(sent::holds(p, places, tag::CID, image::cid(img)));
     }
     Check::Fine
 }
 
-fn is_awake(cmd: Command, face: Front) -> Check
-    ensures { λ r. ⌜ r ≡ verdict (row cmd .needs .asleep || eqb (face .flags .active) 1) ⌝ }
+fn is_awake(n: Needs, img: &[u8]) -> Check
+    ensures { λ r. ⌜ r ≡ verdict (n .asleep || eqb (decode (now (img .entry)) .face .front .flags .active) 1) ⌝ }
 {
-    let n = checks::needs(cmd);
-    wire::checked(wire::either(n.asleep, face.flags.active == 1))
+    let flags = image::flags(img);
+    wire::checked(wire::either(n.asleep, flags.active == 1))
 }
 
-fn is_allowed(cmd: Command, status: u8) -> Check
-    ensures { λ r. ⌜ r ≡ verdict (allowed (row cmd .needs) status) ⌝ }
+fn is_allowed(n: Needs, status: u8) -> Check
+    ensures { λ r. ⌜ r ≡ verdict (allowed n status) ⌝ }
 {
-    let n = checks::needs(cmd);
-    if status == card::EMPTY {
+    if status == Wallet::EMPTY {
         return wire::checked(n.empty);
     }
-    if status == card::LOADED {
+    if status == Wallet::LOADED {
         return wire::checked(n.loaded);
     }
     wire::checked(n.purged)
 }
 
 // Checks 6 to 9, and then what is handed over.
-fn entry(cmd: Command, codes: Codes, face: Front, p: &[u8], pass: Verdict) -> Verdict
-    ensures { λ r. ⌜ r ≡ gateOf (entryRules (row cmd) (matched codes (now (p .entry))) (bare face) (now (p .entry))) pass ⌝ }
+fn entry(cmd: Command, img: &[u8], p: &[u8], places: &Places, pass: Verdict) -> Verdict
+    ensures { λ r. ⌜ r ≡ entryOf cmd (decode (now (img .entry))) (viewBy (now (p .entry)) (now (places .entry))) pass ⌝ }
 {
-    let pin1 = has_pin1(codes, p);
-    let cid = has_cid(cmd, face, p);
-    let awake = is_awake(cmd, face);
-    let open = is_allowed(cmd, face.wallet.status);
+    let needs = checks::needs(cmd);
+    let wallet = image::wallet(img);
+    let pin1 = has_pin1(img, p, places);
+    let cid = has_cid(needs, img, p, places);
+    let awake = is_awake(needs, img);
+    let open = is_allowed(needs, wallet.status);
     let Check::Fine = pin1 else {
-        return Verdict::Stop(6, manual::SW_DATA);
+        return Verdict::Stop(6, Outcome::SW_INVALID_PARAMS);
     };
     let Check::Fine = cid else {
-        return Verdict::Stop(7, manual::SW_DATA);
+        return Verdict::Stop(7, Outcome::SW_INVALID_PARAMS);
     };
     let Check::Fine = awake else {
-        return Verdict::Stop(8, manual::SW_STATUS);
+        return Verdict::Stop(8, Outcome::SW_INVALID_STATUS);
     };
     let Check::Fine = open else {
-        return Verdict::Stop(9, manual::SW_STATUS);
+        return Verdict::Stop(9, Outcome::SW_INVALID_STATUS);
     };
     pass
 }
 
-fn has_pin2(cmd: Command, codes: Codes, p: &[u8]) -> Check
-    ensures { λ r. ⌜ r ≡ verdict (not (row cmd .pin2 (now (p .entry))) || holds 0x11 (now (p .entry)) (codes .pin2)) ⌝ }
+fn has_pin2(cmd: Command, img: &[u8], p: &[u8], places: &Places) -> Check
+    ensures { λ r. ⌜ r ≡ verdict (pin2Ok cmd (decode (now (img .entry))) (viewBy (now (p .entry)) (now (places .entry)))) ⌝ }
 {
-    if checks::needs_pin2(cmd, p) {
-        let pin2 = codes.pin2;
-        return wire::checked(fields::holds(p, 0x11, &pin2));
+    if checks::needs_pin2(cmd, p, places) {
+        return wire::checked(sent::holds(p, places, tag::PIN2, image::pin2(img)));
     }
     Check::Fine
 }
 
 // The CVC is asked where the command asks for it and the card uses it.
-fn needs_cvc(cmd: Command, usecvc: u8) -> bool
-    ensures { λ r. ⌜ r ≡ (row cmd .needs .cvc && eqb usecvc 1) ⌝ }
+fn asks_cvc(cmd: Command, img: &[u8]) -> bool
+    ensures { λ r. ⌜ r ≡ asksCvc (row cmd) (decode (now (img .entry)) .face) ⌝ }
 {
-    let n = checks::needs(cmd);
-    wire::both(n.cvc, usecvc == 1)
+    let needs = checks::needs(cmd);
+    let flags = image::flags(img);
+    wire::both(needs.cvc, flags.usecvc == 1)
 }
 
-fn has_cvc(cmd: Command, face: Front, p: &[u8]) -> Check
-    ensures { λ r. ⌜ r ≡ verdict (not (row cmd .needs .cvc && eqb (face .flags .usecvc) 1) || holds 0x19 (now (p .entry)) (face .fixed .cvc)) ⌝ }
+fn has_cvc(cmd: Command, img: &[u8], p: &[u8], places: &Places) -> Check
+    ensures { λ r. ⌜ r ≡ verdict (cvcOk cmd (decode (now (img .entry))) (viewBy (now (p .entry)) (now (places .entry)))) ⌝ }
 {
-    if needs_cvc(cmd, face.flags.usecvc) {
-        let cvc = face.fixed.cvc;
-        return wire::checked(fields::holds(p, 0x19, &cvc));
+    if asks_cvc(cmd, img) {
+        return wire::checked(sent::holds(p, places, tag::CVC, image::cvc(img)));
     }
     Check::Fine
 }
 
-fn has_fields(cmd: Command, face: Front, p: &[u8]) -> Check
-    ensures { λ r. ⌜ r ≡ verdict (row cmd .fields (bare face) (now (p .entry))) ⌝ }
+fn has_fields(cmd: Command, img: &[u8], p: &[u8], places: &Places) -> Check
+    ensures { λ r. ⌜ r ≡ verdict (row cmd .fields (decode (now (img .entry)) .face) (viewBy (now (p .entry)) (now (places .entry)))) ⌝ }
 {
-    wire::checked(checks::fields_ok(cmd, face, p))
+    wire::checked(checks::fields_ok(cmd, img, p, places))
 }
 
-fn has_conditions(cmd: Command, codes: Codes, face: Front, p: &[u8]) -> Check
-    ensures { λ r. ⌜ r ≡ verdict (row cmd .conditions (matched codes (now (p .entry))) (bare face) (now (p .entry))) ⌝ }
+fn has_conditions(cmd: Command, img: &[u8], p: &[u8], places: &Places) -> Check
+    ensures { λ r. ⌜ r ≡ verdict (conditionsOf cmd (decode (now (img .entry))) (viewBy (now (p .entry)) (now (places .entry)))) ⌝ }
 {
-    wire::checked(checks::conditions_ok(cmd, codes, face, p))
+    wire::checked(checks::conditions_ok(cmd, img, p, places))
 }
 
 // Checks 10 to 12, and then what is handed over.
-fn own(cmd: Command, codes: Codes, face: Front, p: &[u8], pass: Verdict) -> Verdict
-    ensures { λ r. ⌜ r ≡ gateOf (ownRules (row cmd) (matched codes (now (p .entry))) (bare face) (now (p .entry))) pass ⌝ }
+fn own(cmd: Command, img: &[u8], p: &[u8], places: &Places, pass: Verdict) -> Verdict
+    ensures { λ r. ⌜ r ≡ ownOf cmd (decode (now (img .entry))) (viewBy (now (p .entry)) (now (places .entry))) pass ⌝ }
 {
-    let pin2 = has_pin2(cmd, codes, p);
-    let cvc = has_cvc(cmd, face, p);
-    let sent = has_fields(cmd, face, p);
-    let met = has_conditions(cmd, codes, face, p);
+    let pin2 = has_pin2(cmd, img, p, places);
+    let cvc = has_cvc(cmd, img, p, places);
+    let sent = has_fields(cmd, img, p, places);
+    let met = has_conditions(cmd, img, p, places);
     let Check::Fine = pin2 else {
-        return Verdict::Stop(10, manual::SW_DATA);
+        return Verdict::Stop(10, Outcome::SW_INVALID_PARAMS);
     };
     let Check::Fine = cvc else {
-        return Verdict::Stop(10, manual::SW_DATA); // the CVC after PIN2
+        return Verdict::Stop(10, Outcome::SW_INVALID_PARAMS); // the CVC after PIN2
     };
     let Check::Fine = sent else {
-        return Verdict::Stop(11, manual::SW_DATA);
+        return Verdict::Stop(11, Outcome::SW_INVALID_PARAMS);
     };
     let Check::Fine = met else {
-        return Verdict::Stop(12, manual::SW_STATUS);
+        return Verdict::Stop(12, Outcome::SW_INVALID_STATUS);
     };
     pass
 }
 
-// The checks 1 to 12, which ask and settle share.
-pub fn judge(codes: Codes, face: Front, q: &[u8]) -> Verdict
-    ensures { λ r. ⌜ r ≡ judged (matched codes (payload (now (q .entry)))) (bare face) (now (q .entry)) ⌝ }
+// Checks 4 to 12 of a command, which ask and settle share: of its request, and what one walk found in the payload.
+pub fn judge(cmd: Command, img: &[u8], q: &[u8], p: &[u8], whole: bool, places: &Places) -> Verdict
+    ensures { λ r. ⌜ r ≡ laterOf cmd whole (decode (now (img .entry))) (viewBy (now (p .entry)) (now (places .entry))) (now (q .entry)) ⌝ }
 {
-    let h = header(q);
-    let Verdict::Pass(cmd) = h else {
-        return h;
-    };
-    let f = form(q, h);
+    let pass = Verdict::Pass(cmd);
+    let f = form(q, whole, pass);
     let Verdict::Pass(_) = f else {
         return f;
     };
-    let p = request::payload(q);
-    let e = entry(cmd, codes, face, p, h);
+    let e = entry(cmd, img, p, places, pass);
     let Verdict::Pass(_) = e else {
         return e;
     };
-    own(cmd, codes, face, p, h)
+    own(cmd, img, p, places, pass)
 }

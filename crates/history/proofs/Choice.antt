@@ -1,17 +1,18 @@
 -- Laws of choices, and of the INS byte. Assumes nothing.
 use Prim.Native.Nat.{ℕ}
 use native.Mathlib.Omega.{arith}
-use mathlib.Core.Path.{_≡_, refl, ap, _∙_}
-use mathlib.Core.Bool.{Bool, true, false, cond, _&&_, _||_}
+use mathlib.Core.Path.{_≡_, refl, sym, ap, _∙_}
+use mathlib.Core.List.{List, [], _∷_}
+use mathlib.Core.Bool.{Bool, true, false, _||_}
 use lib.Dec.{eqb}
-use borrow.Author.Tests.{eqb-true}
+use borrow.Author.Tests.{eq-eqb, eqb-true}
 pub use Rattle.wire.proofs.Laws.{by-cases, both-true}
 use Rattle.manual.specs.declared.Command.{Command}
-use Rattle.manual.specs.declared.Command.the-variants.{ReadCard, CreateWallet, CheckWallet, SetPin, Sign, VerifyCard, ValidateCard, PurgeWallet, ReadUserData, WriteUserData, WriteIssuerData, ReadIssuerData}
+use Rattle.manual.specs.declared.Command.the-variants.{ReadCard, CreateWallet, CheckWallet, SetPin, Sign, PurgeWallet, WriteIssuerData}
 use Rattle.manual.specs.declared.Ins.{Ins}
-use Rattle.manual.specs.declared.Ins.the-variants.{Listed}
-use Rattle.manual.specs.Request.{insOf, commandOf}
-use Rattle.history.specs.Sums.{code}
+use Rattle.manual.specs.declared.Ins.the-variants.{Listed, Unlisted}
+use Rattle.manual.specs.Request.{code, commands, listedIn, insOf, commandOf, command}
+use Rattle.story.specs.Sums.{Tap, tap, accepted, ins, did, usesWallet}
 
 pub clash : {A : Type 0} {b : Bool} → b ≡ true → b ≡ false → A
 clash p q = let z : _≡_ {A = ℕ} 0 1 = cc in absurd (omega arith)
@@ -20,87 +21,88 @@ pub or-false : (a b : Bool) → (a || b) ≡ true → a ≡ false → b ≡ true
 or-false true b e h = cc
 or-false false b e h = e
 
-pub or-right : (a b : Bool) → b ≡ true → (a || b) ≡ true
-or-right true b e = refl
-or-right false b e = e
+-- A REQUEST FOR A COMMAND has its INS; READ_CARD stands for what is not listed too
+abbrev Known : ℕ → Ins → Type 0
+Known i (Listed k) = i ≡ code k
+Known i Unlisted = Unit {0}
 
-pub or-left : (a b : Bool) → a ≡ true → (a || b) ≡ true
-or-left true b e = refl
-or-left false b e = clash e refl
+known : (ks : List Command) (i : ℕ) → Known i (listedIn ks i)
+known [] i = tt
+known (k ∷ ks) i = by-cases (Known i) (eqb i (code k)) (λ e. eqb-true i (code k) e) (λ _. known ks i)
 
-pub and-both : {a b : Bool} → a ≡ true → b ≡ true → (a && b) ≡ true
-and-both p q = rw (p, q)
+-- of a command that is listed, and is not READ_CARD
+record Own (k : Command) : Type 0 where
+  listed : commandOf (insOf (code k)) ≡ k
+  other : eqb (code ReadCard) (code k) ≡ false
 
--- a test of the INS is a test of the command, but for READ_CARD, which stands for what is not listed too
-module _ (i x : ℕ) where
-  abbrev Goal : Ins → Type 0
-  Goal z = eqb i x ≡ eqb (code (commandOf z)) x
+ins-is : (k : Command) → Own k → (q : List ℕ) → eqb (ins q) (code k) ≡ eqb (code (command q)) (code k)
+unfolding insOf
+ins-is k o q = go (eqb (ins q) (code k)) refl
+  where
+    unlike : (z : Ins) → Known (ins q) z → eqb (ins q) (code k) ≡ false → eqb (code (commandOf z)) (code k) ≡ false
+    unlike (Listed j) h e = ap (λ i. eqb i (code k)) (sym h) ∙ e
+    unlike Unlisted h e = o .other
 
-  one : (n : ℕ) (k : Command) (rest : Ins) → n ≡ code k → (eqb i n ≡ false → Goal rest) → Goal (cond (eqb i n) (Listed k) rest)
-  one n k rest c f = by-cases Goal (eqb i n) (λ e. ap (λ j. eqb j x) (eqb-true i n e ∙ c)) f
+    go : (b : Bool) → eqb (ins q) (code k) ≡ b → b ≡ eqb (code (command q)) (code k)
+    go true e =
+        let s : command q ≡ k = ap (λ i. commandOf (insOf i)) (eqb-true (ins q) (code k) e) ∙ o .listed in
+        sym (ap (λ j. eqb (code j) (code k)) s ∙ eq-eqb (code k) (code k) refl)
+    go false e = sym (unlike (insOf (ins q)) (known commands (ins q)) e)
 
-  ins-is : (eqb i 0xF8 ≡ false → eqb i 0xF9 ≡ false → eqb i 0xFA ≡ false → eqb i 0xFB ≡ false → eqb i 0xFC ≡ false → eqb i 0xF6 ≡ false → eqb i x ≡ eqb 0xF2 x) → Goal (insOf i)
-  unfolding insOf
-  ins-is never =
-      one _ ReadCard _ refl λ _.
-      one _ CreateWallet _ refl λ a.
-      one _ CheckWallet _ refl λ b.
-      one _ SetPin _ refl λ c.
-      one _ Sign _ refl λ d.
-      one _ VerifyCard _ refl λ _.
-      one _ ValidateCard _ refl λ _.
-      one _ PurgeWallet _ refl λ e.
-      one _ ReadUserData _ refl λ _.
-      one _ WriteUserData _ refl λ _.
-      one _ WriteIssuerData _ refl λ g.
-      one _ ReadIssuerData _ refl λ _.
-      never a b c d e g
+own-create : Own CreateWallet
+unfolding insOf
+own-create = record { listed = refl; other = refl }
 
-abbrev k-of : ℕ → Command
-k-of i = commandOf (insOf i)
+own-check : Own CheckWallet
+unfolding insOf
+own-check = record { listed = refl; other = refl }
 
-pub ins-create : (i : ℕ) → eqb i 0xF8 ≡ eqb (code (k-of i)) 0xF8
-ins-create i = ins-is i 0xF8 (λ a b c d e g. a)
+own-pin : Own SetPin
+unfolding insOf
+own-pin = record { listed = refl; other = refl }
 
-pub ins-check : (i : ℕ) → eqb i 0xF9 ≡ eqb (code (k-of i)) 0xF9
-ins-check i = ins-is i 0xF9 (λ a b c d e g. b)
+own-sign : Own Sign
+unfolding insOf
+own-sign = record { listed = refl; other = refl }
 
-pub ins-pin : (i : ℕ) → eqb i 0xFA ≡ eqb (code (k-of i)) 0xFA
-ins-pin i = ins-is i 0xFA (λ a b c d e g. c)
+own-purge : Own PurgeWallet
+unfolding insOf
+own-purge = record { listed = refl; other = refl }
 
-pub ins-sign : (i : ℕ) → eqb i 0xFB ≡ eqb (code (k-of i)) 0xFB
-ins-sign i = ins-is i 0xFB (λ a b c d e g. d)
+own-note : Own WriteIssuerData
+unfolding insOf
+own-note = record { listed = refl; other = refl }
 
-pub ins-purge : (i : ℕ) → eqb i 0xFC ≡ eqb (code (k-of i)) 0xFC
-ins-purge i = ins-is i 0xFC (λ a b c d e g. e)
+-- which sums a tap that was accepted counts in, by its command
+pub record Did (k : Command) (t : Tap) : Type 0 where
+  pub create : did CreateWallet t ≡ eqb (code k) (code CreateWallet)
+  pub pin : did SetPin t ≡ eqb (code k) (code SetPin)
+  pub sign : did Sign t ≡ eqb (code k) (code Sign)
+  pub purge : did PurgeWallet t ≡ eqb (code k) (code PurgeWallet)
 
-pub ins-note : (i : ℕ) → eqb i 0xF6 ≡ eqb (code (k-of i)) 0xF6
-ins-note i = ins-is i 0xF6 (λ a b c d e g. g)
+pub did-by : (q r : List ℕ) → accepted r ≡ true → Did (command q) (tap q r)
+did-by q r e =
+    record {
+      create = rw e (ins-is CreateWallet own-create q);
+      pin = rw e (ins-is SetPin own-pin q);
+      sign = rw e (ins-is Sign own-sign q);
+      purge = rw e (ins-is PurgeWallet own-purge q);
+    }
 
-pub is-sign : (k : Command) → eqb (code k) 0xFB ≡ true → k ≡ Sign
-is-sign ReadCard e = clash e refl
-is-sign CreateWallet e = clash e refl
-is-sign CheckWallet e = clash e refl
-is-sign SetPin e = clash e refl
-is-sign Sign e = refl
-is-sign VerifyCard e = clash e refl
-is-sign ValidateCard e = clash e refl
-is-sign PurgeWallet e = clash e refl
-is-sign ReadUserData e = clash e refl
-is-sign WriteUserData e = clash e refl
-is-sign WriteIssuerData e = clash e refl
-is-sign ReadIssuerData e = clash e refl
+-- the command of a tap that did it
+did-is : (k : Command) → Own k → (t : Tap) → did k t ≡ true → (accepted (t .response) ≡ true) × (command (t .request) ≡ k)
+did-is k o t e =
+    let y = both-true (accepted (t .response)) (eqb (ins (t .request)) (code k)) e in
+    (y .0, ap (λ i. commandOf (insOf i)) (eqb-true (ins (t .request)) (code k) (y .1)) ∙ o .listed)
 
-pub is-note : (k : Command) → eqb (code k) 0xF6 ≡ true → k ≡ WriteIssuerData
-is-note ReadCard e = clash e refl
-is-note CreateWallet e = clash e refl
-is-note CheckWallet e = clash e refl
-is-note SetPin e = clash e refl
-is-note Sign e = clash e refl
-is-note VerifyCard e = clash e refl
-is-note ValidateCard e = clash e refl
-is-note PurgeWallet e = clash e refl
-is-note ReadUserData e = clash e refl
-is-note WriteUserData e = clash e refl
-is-note WriteIssuerData e = refl
-is-note ReadIssuerData e = clash e refl
+pub did-sign : (t : Tap) → did Sign t ≡ true → (accepted (t .response) ≡ true) × (command (t .request) ≡ Sign)
+did-sign = did-is Sign own-sign
+
+pub did-note : (t : Tap) → did WriteIssuerData t ≡ true → (accepted (t .response) ≡ true) × (command (t .request) ≡ WriteIssuerData)
+did-note = did-is WriteIssuerData own-note
+
+pub is-note : (q : List ℕ) → ins q ≡ code WriteIssuerData → command q ≡ WriteIssuerData
+is-note q e = ap (λ i. commandOf (insOf i)) e ∙ own-note .listed
+
+pub uses-by : (q : List ℕ) → usesWallet (ins q) ≡ true → usesWallet (code (command q)) ≡ true
+uses-by q u = rw (← ins-is CreateWallet own-create q, ← ins-is CheckWallet own-check q, ← ins-is Sign own-sign q) u

@@ -10,20 +10,21 @@ use lib.Dec.{leb, eqb}
 use borrow.Author.Tests.{le-leb}
 use Rattle.wire.specs.Wire.{joined}
 use Rattle.card.specs.declared.Card.{Card}
+use Rattle.card.specs.Layout.{imageSize}
 use Rattle.card.specs.Image.{encode, decode}
 use Rattle.card.specs.Valid.{isCard}
-use Rattle.manual.specs.Request.{payload}
-use Rattle.manual.specs.Row.{asked, eachAsked}
-use Rattle.manual.specs.Settle.{matched, Said, done, saidTo, cardAfter, Settled, settled, settledOf, lent, untouched, roomy, askedFor, askedOf}
-use Rattle.history.specs.Sums.{Sheet, History, tap}
-use Rattle.history.specs.Demands.{AnyCard, Call, askBy, settleBy, Demand2, questions, response, image, tapBy, imageBy, left, played, Fresh, OneMore, Demand3}
-use Rattle.history.proofs.Choice.{by-cases, clash}
 use Rattle.card.specs.Shape.{Shape}
-use Rattle.image.proofs.Shape.{length-encode}
-use Rattle.image.proofs.Round.{decode-encode, shape-decode}
-use Rattle.history.proofs.Taps.{by-tap, watch}
-use Rattle.history.proofs.Seen.{look}
-use Rattle.history.proofs.Keeps.{Inv, at-first}
+use Rattle.cards.proofs.Shape.{length-encode}
+use Rattle.cards.proofs.Round.{decode-encode, shape-decode, is-card-length}
+use Rattle.manual.specs.Words.{questionsRoom, drawSize}
+use Rattle.manual.specs.Row.{asked, eachAsked}
+use Rattle.manual.specs.Settle.{Call, sentIn, matched, Said, done, saidTo, cardAfter, Settled, settled, settledOf, lent, untouched, roomy, askedFor, askedOf}
+use Rattle.story.specs.Sums.{Sheet, History, tap}
+use Rattle.story.specs.Buffers.{questions, response, image}
+use Rattle.history.specs.Demands.{AnyCard, Demand2, tapBy, imageBy, left, played, Fresh, OneMore, Demand3}
+use Rattle.history.proofs.Choice.{by-cases, clash}
+use Rattle.history.proofs.Taps.{by-tap}
+use Rattle.history.proofs.Seen.{look, watch, Inv, at-first}
 use Rattle.history.proofs.Cards.{after, xs, shape-after, Fits, fits-tap, fits-none}
 use Rattle.history.proofs.Next.{one-more, no-more}
 
@@ -35,101 +36,121 @@ model = record { ask = askedFor; settle = settled }
 pub quiet : (c : Card) (q d a : List ℕ) → eqb (saidTo c q d a .number) 0 ≡ false → (saidTo c q d a .response ≡ []) × (after c q d a ≡ c)
 unfolding done
 quiet c q d a =
-    by-tap (λ z _. eqb (z .number) 0 ≡ false → (z .response ≡ []) × (cardAfter z (c .codes) q ≡ c)) (matched (c .codes) (payload q)) (c .face) q d a
+    by-tap (λ z _. eqb (z .number) 0 ≡ false → (z .response ≡ []) × (cardAfter z (c .codes) q ≡ c)) (matched (c .codes) (sentIn q)) (c .face) q d a
     (λ w x z n. clash refl n)
     (λ _ s z n. (z .silence n, rw (z .face, z .codes) refl))
     (λ y g n. clash refl n)
 
 -- WHAT THE CALLER READS out of lent buffers
-pub read-response : (s : Said) (c : Card) (out nxt : List ℕ) (b : Bool) → eqb (s .number) 0 ≡ b → (b ≡ false → s .response ≡ []) → response (lent s c out nxt) ≡ s .response
+read-response :
+    (s : Said) (c : Card) (out nxt : List ℕ) (b : Bool) → eqb (s .number) 0 ≡ b → (b ≡ false → s .response ≡ [])
+    → response (lent s c out nxt) ≡ s .response
 unfolding lent
 read-response s c out nxt true e h = rw e (take-at (s .response) (drop (length (s .response)) out) (length (s .response)) refl)
 read-response s c out nxt false e h = rw (e, e) (sym (h refl))
 
-pub read-image : (m : List ℕ) (s : Said) (c : Card) (out nxt : List ℕ) → length (encode c) ≡ 2429 → image m (lent s c out nxt) ≡ cond (eqb (s .number) 0) (encode c) m
+read-image :
+    (m : List ℕ) (s : Said) (c : Card) (out nxt : List ℕ) → length (encode c) ≡ imageSize
+    → image m (lent s c out nxt) ≡ cond (eqb (s .number) 0) (encode c) m
 unfolding lent
 read-image m s c out nxt h = go (eqb (s .number) 0) refl
   where
     go : (b : Bool) → eqb (s .number) 0 ≡ b → image m (lent s c out nxt) ≡ cond b (encode c) m
-    go true e = rw e (take-at (encode c) (drop 2429 nxt) 2429 h)
+    go true e = rw e (take-at (encode c) (drop imageSize nxt) imageSize h)
     go false e = rw (e, e) refl
+
+-- what the manual says and leaves at a call, and in its buffers
+abbrev pub saidAt : List ℕ → Call → Said
+saidAt m i = saidTo (decode m) (i .request) (i .draw) (i .answers)
+
+abbrev pub cardAt : List ℕ → Call → Card
+cardAt m i = after (decode m) (i .request) (i .draw) (i .answers)
+
+abbrev pub settledAt : List ℕ → Call → Settled
+settledAt m i = settledOf (decode m) (i .request) (i .draw) (i .answers) (i .out) (i .next)
 
 -- THE CASES OF A CALL: numbers 1 to 3, or the card is looked at
 pub by-call :
-    (P : Settled → Type 0) (m : List ℕ) (i : Call)
-    → ((n : ℕ) → eqb n 0 ≡ false → P (untouched n (i .out) (i .next)))
-    → (isCard m ≡ true → roomy (length (i .out)) (length (i .next)) ≡ true → eqb (length (i .draw)) 32 ≡ true → P (settledOf (decode m) (i .request) (i .draw) (i .answers) (i .out) (i .next)))
-    → P (settleBy model m i)
+    (P : Settled → Type 0) (m : List ℕ) (i : Call) → ((n : ℕ) → eqb n 0 ≡ false → P (untouched n (i .out) (i .next)))
+    → (isCard m ≡ true → roomy (length (i .out)) (length (i .next)) ≡ true → eqb (length (i .draw)) drawSize ≡ true → P (settledAt m i))
+    → P (settled m i)
 unfolding settled
 by-call P m i f g =
     by-cases P (isCard m)
-    (λ x. by-cases P (roomy (length (i .out)) (length (i .next))) (λ y. by-cases P (eqb (length (i .draw)) 32) (λ z. g x y z) (λ _. f 3 refl)) (λ _. f 2 refl))
+    (λ x.
+    by-cases P (roomy (length (i .out)) (length (i .next)))
+    (λ y. by-cases P (eqb (length (i .draw)) drawSize) (λ z. g x y z) (λ _. f 3 refl))
+    (λ _. f 2 refl))
     (λ _. f 1 refl)
 
-module _ (m : List ℕ) (i : Call) where
-  abbrev c : Card
-  c = decode m
+pub response-is : (m : List ℕ) (i : Call) → response (settledAt m i) ≡ saidAt m i .response
+unfolding settledOf
+response-is m i =
+    read-response (saidAt m i) (cardAt m i) (i .out) (i .next) (eqb (saidAt m i .number) 0) refl
+    (λ e. quiet (decode m) (i .request) (i .draw) (i .answers) e .0)
 
-  abbrev s : Said
-  s = saidTo (decode m) (i .request) (i .draw) (i .answers)
+module _ (m : List ℕ) (i : Call) (o : isCard m ≡ true) where
+  pub shape-is : Shape (cardAt m i)
+  shape-is = shape-after (decode m) (i .request) (i .draw) (i .answers) (shape-decode m (is-card-length m o))
 
-  abbrev c′ : Card
-  c′ = after (decode m) (i .request) (i .draw) (i .answers)
-
-  abbrev out : Settled
-  out = settledOf (decode m) (i .request) (i .draw) (i .answers) (i .out) (i .next)
-
-  pub response-is : response out ≡ s .response
+  pub image-bytes : image m (settledAt m i) ≡ cond (eqb (saidAt m i .number) 0) (encode (cardAt m i)) m
   unfolding settledOf
-  response-is = read-response s c′ (i .out) (i .next) (eqb (s .number) 0) refl (λ e. quiet c (i .request) (i .draw) (i .answers) e .0)
+  image-bytes = read-image m (saidAt m i) (cardAt m i) (i .out) (i .next) (length-encode (cardAt m i) shape-is)
 
-  pub shape-is : Shape c′
-  shape-is = shape-after c (i .request) (i .draw) (i .answers) (shape-decode m)
-
-  pub image-bytes : image m out ≡ cond (eqb (s .number) 0) (encode c′) m
-  unfolding settledOf
-  image-bytes = read-image m s c′ (i .out) (i .next) (length-encode c′ shape-is)
-
-  pub image-is : decode (image m out) ≡ c′
+  pub image-is : decode (image m (settledAt m i)) ≡ cardAt m i
   image-is =
       ap decode image-bytes
-      ∙ by-cases (λ (l : List ℕ). decode l ≡ c′) (eqb (s .number) 0) {x = encode c′} {y = m} (λ _. decode-encode c′ shape-is) (λ e. sym (quiet c (i .request) (i .draw) (i .answers) e .1))
+      ∙ by-cases (λ (l : List ℕ). decode l ≡ cardAt m i) (eqb (saidAt m i .number) 0) {x = encode (cardAt m i)} {y = m}
+      (λ _. decode-encode (cardAt m i) shape-is)
+      (λ e. sym (quiet (decode m) (i .request) (i .draw) (i .answers) e .1))
 
-  -- ask: zero questions where the card has none, whatever is lent
-  pub asks-none : xs c (i .request) (i .draw) ≡ [] → questions (askBy model m i) ≡ []
+-- ask: zero questions where the card has none, whatever is lent
+module _ (m : List ℕ) (i : Call) where
+  pub asks-none : xs (decode m) (i .request) (i .draw) ≡ [] → questions (askedFor m i) ≡ []
   unfolding askedFor askedOf asked eachAsked joined
   asks-none e =
       by-cases (λ z. questions z ≡ []) (isCard m)
-      (λ _. by-cases (λ z. questions z ≡ []) (leb 2048 (length (i .page))) (λ _. by-cases (λ z. questions z ≡ []) (eqb (length (i .draw)) 32) (λ _. rw e refl) (λ _. refl)) (λ _. refl))
+      (λ _.
+      by-cases (λ z. questions z ≡ []) (leb questionsRoom (length (i .page)))
+      (λ _. by-cases (λ z. questions z ≡ []) (eqb (length (i .draw)) drawSize) (λ _. rw e refl) (λ _. refl))
+      (λ _. refl))
       (λ _. refl)
 
-  pub asks-all : isCard m ≡ true → eqb (length (i .draw)) 32 ≡ true → 2048 ≤ length (i .page) → questions (askBy model m i) ≡ asked (xs c (i .request) (i .draw))
+  asks-all :
+      isCard m ≡ true → eqb (length (i .draw)) drawSize ≡ true → questionsRoom ≤ length (i .page)
+      → questions (askedFor m i) ≡ asked (xs (decode m) (i .request) (i .draw))
   unfolding askedFor askedOf
   asks-all e l h =
-      let v : List ℕ = asked (xs c (i .request) (i .draw)) in
-      rw (e, le-leb 2048 (length (i .page)) h, l) (take-at v (drop (length v) (i .page)) (length v) refl)
+      let v : List ℕ = asked (xs (decode m) (i .request) (i .draw)) in
+      rw (e, le-leb questionsRoom (length (i .page)) h, l) (take-at v (drop (length v) (i .page)) (length v) refl)
 
 -- EVERY CALL keeps card and history in step
-fits-call : (sh : Sheet) (m : List ℕ) (h : History) (i : Call) → Fits sh (decode m) h → Fits sh (decode (imageBy model m i)) (tapBy model m i ∷ h)
+fits-call :
+    (sh : Sheet) (m : List ℕ) (h : History) (i : Call) → Fits sh (decode m) h → Fits sh (decode (imageBy model m i)) (tapBy model m i ∷ h)
 fits-call sh m h i e =
     by-call (λ z. Fits sh (decode (image m z)) (tap (i .request) (response z) ∷ h)) m i
     (λ n k. rw k (fits-none sh (decode m) h (i .request) e))
-    (λ _ _ _. rw (image-is m i, response-is m i) (fits-tap sh (decode m) h (i .request) (i .draw) (i .answers) e))
+    (λ o _ _. rw (image-is m i o, response-is m i) (fits-tap (decode m) (i .request) (i .draw) (i .answers) sh h e))
 
-more-call : (sh : Sheet) (m : List ℕ) (h : History) (i : Call) → Fits sh (decode m) h → OneMore sh h i (questions (askBy model m i)) (response (settleBy model m i))
+more-call :
+    (sh : Sheet) (m : List ℕ) (h : History) (i : Call) → Fits sh (decode m) h → OneMore sh h i (questions (askedFor m i)) (response (settled m i))
 more-call sh m h i e =
-    by-call (λ z. OneMore sh h i (questions (askBy model m i)) (response z)) m i
-    (λ n k. rw k (no-more sh (decode m) h e i (questions (askBy model m i)) (asks-none m i)))
-    (λ x y z. rw (response-is m i) (one-more sh (decode m) h e i (questions (askBy model m i)) (asks-all m i x z) (asks-none m i)))
+    by-call (λ z. OneMore sh h i (questions (askedFor m i)) (response z)) m i
+    (λ n k. rw k (no-more sh (decode m) h e i (questions (askedFor m i)) (asks-none m i)))
+    (λ x y z. rw (response-is m i) (one-more sh (decode m) h e i (questions (askedFor m i)) (asks-all m i x z) (asks-none m i)))
 
 -- any calls keep it
-fits-all : (sh : Sheet) (m : List ℕ) (h : History) (is : List Call) → Fits sh (decode m) h → Fits sh (decode (left model m is)) (played model m h is)
+fits-all :
+    (sh : Sheet) (m : List ℕ) (h : History) (is : List Call) → Fits sh (decode m) h → Fits sh (decode (left model m is)) (played model m h is)
 fits-all sh m h [] e = e
 fits-all sh m h (i ∷ is) e = fits-all sh (imageBy model m i) (tapBy model m i ∷ h) is (fits-call sh m h i e)
 
 fits-fresh : (sh : Sheet) (m : List ℕ) → Fresh sh m → Fits sh (decode m) []
 fits-fresh sh m e =
-    record { inv = subst (λ c. Inv sh (watch (c .face)) (c .codes) (look sh [])) (sym (e .spells)) (at-first sh); shape = shape-decode m }
+    record {
+      inv = subst (λ c. Inv sh (watch (c .face)) (c .codes) (look sh [])) (sym (e .spells)) (at-first sh);
+      shape = shape-decode m (is-card-length m (e .card));
+    }
 
 -- DEMAND 3 of the manual
 pub model-demand3 : Demand3 model
@@ -143,8 +164,8 @@ model-demand3 =
 
 -- and demand 2, which is to be the manual
 pub model-demand2 : Demand2 model
-model-demand2 = record { asks = λ m q d page. refl; settles = λ m q d a out next. refl }
+model-demand2 = record { asks = λ m i. refl; settles = λ m i. refl }
 
 -- a card that meets demand 2 is the manual
 pub is-model : (f : AnyCard) → Demand2 f → model ≡ f
-is-model f h = λ j. record { ask = λ m q d x. sym (h .asks m q d x) j; settle = λ m q d a x y. sym (h .settles m q d a x y) j }
+is-model f h = λ j. record { ask = λ m i. sym (h .asks m i) j; settle = λ m i. sym (h .settles m i) j }

@@ -1,14 +1,20 @@
--- What a history shows, together; and which tests of the sums a tap passes, by its command. Assumes nothing.
-use Prim.Native.Nat.{ℕ}
-use mathlib.Core.Path.{_≡_}
-use mathlib.Core.List.{List, _∷_}
-use mathlib.Core.Bool.{Bool, false}
-use lib.Dec.{eqb}
+-- What a history shows, together, and THE INVARIANT of a card and its history. Assumes nothing.
+use Prim.Native.Nat.{ℕ, _+_, _≤_}
+use native.Mathlib.Omega.{arith}
+use mathlib.Core.Path.{_≡_, refl}
+use mathlib.Core.List.{List, [], _∷_}
+use mathlib.Core.Bool.{Bool, true, false}
+use Rattle.wire.proofs.Laws.{part-none}
 use Rattle.card.specs.declared.Codes.{Codes}
-use Rattle.manual.specs.declared.Command.{Command}
-use Rattle.manual.specs.Request.{command}
-use Rattle.history.specs.Sums.{code, Sheet, Tap, History, accepted, ins, wallets, status, everPurged, made, total, codes, given}
-use Rattle.history.proofs.Choice.{ins-create, ins-pin, ins-sign, ins-purge}
+use Rattle.card.specs.declared.Fixed.{Fixed}
+use Rattle.card.specs.declared.Flags.{Flags}
+use Rattle.card.specs.declared.Wallet.{Wallet}
+use Rattle.card.specs.declared.Last.{Last}
+use Rattle.card.specs.declared.Face.{Face}
+use Rattle.card.specs.Layout.{top32}
+use Rattle.card.specs.Values.{lastOf, fresh}
+use Rattle.story.specs.Sums.{Sheet, Tap, History, accepted, wallets, status, everPurged, made, total, codes, given}
+use Rattle.history.proofs.Choice.{clash}
 
 pub record Seen : Type 0 where
   pub codes : Codes
@@ -20,18 +26,57 @@ pub record Seen : Type 0 where
   pub given : List ℕ
 
 abbrev pub look : Sheet → History → Seen
-look sh h = record { codes = codes sh h; status = status sh h; everPurged = everPurged h; number = wallets h; made = made h; total = total h; given = given h }
+look sh h =
+    record {
+      codes = codes sh h;
+      status = status sh h;
+      everPurged = everPurged h;
+      number = wallets h;
+      made = made h;
+      total = total h;
+      given = given h;
+    }
 
 -- a tap that was not accepted adds nothing
 pub look-none : (sh : Sheet) (t : Tap) (h : History) → accepted (t .response) ≡ false → look sh (t ∷ h) ≡ look sh h
 look-none sh t h e = rw e
 
--- the tests that the sums make of a request's INS
-pub record Tests (q : List ℕ) (k : Command) : Type 0 where
-  pub create : eqb (ins q) 0xF8 ≡ eqb (code k) 0xF8
-  pub pin : eqb (ins q) 0xFA ≡ eqb (code k) 0xFA
-  pub sign : eqb (ins q) 0xFB ≡ eqb (code k) 0xFB
-  pub purge : eqb (ins q) 0xFC ≡ eqb (code k) 0xFC
+-- the part of the card that histories speak of
+pub record Watched : Type 0 where
+  pub fixed : Fixed
+  pub flags : Flags
+  pub wallet : Wallet
+  pub last : Last
 
-pub tests : (q : List ℕ) → Tests q (command q)
-tests q = record { create = ins-create (ins q); pin = ins-pin (ins q); sign = ins-sign (ins q); purge = ins-purge (ins q) }
+abbrev pub watch : Face → Watched
+watch f = record { fixed = f .front .fixed; flags = f .front .flags; wallet = f .front .wallet; last = f .last }
+
+-- THE INVARIANT: what is watched of the card, its codes, and what its history shows
+pub record Inv (sh : Sheet) (f : Watched) (x : Codes) (s : Seen) : Type 0 where
+  pub fixed : f .fixed ≡ sh .fixed
+  pub flags : f .flags ≡ sh .flags
+  pub codes : x ≡ s .codes
+  pub status : f .wallet .status ≡ s .status
+  pub number : f .wallet .number ≡ s .number
+  pub total : f .wallet .signed ≡ s .total
+  pub fits : f .wallet .signed ≤ top32
+  pub last : lastOf (f .last) ≡ s .given
+  pub balance : s .status ≡ 2 → f .wallet .remaining + s .made ≡ sh .fixed .max
+  pub purged : sh .flags .reusable ≡ 0 → s .everPurged ≡ true → s .status ≡ 3
+
+module _ (sh : Sheet) where
+  pub at-first : Inv sh (watch (fresh (sh .fixed) (sh .flags) (sh .codes) .face)) (fresh (sh .fixed) (sh .flags) (sh .codes) .codes) (look sh [])
+  unfolding fresh lastOf
+  at-first =
+      record {
+        fixed = refl;
+        flags = refl;
+        codes = refl;
+        status = refl;
+        number = refl;
+        total = refl;
+        fits = omega arith;
+        last = part-none _ 0;
+        balance = λ e. absurd (omega arith);
+        purged = λ r e. clash e refl;
+      }

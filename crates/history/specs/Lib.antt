@@ -1,4 +1,3 @@
-pub mod Sums
 pub mod Demands
 pub mod Facts
 pub mod Wrong

@@ -1,29 +1,29 @@
--- WRONG CARDS, 01 "How much a promise has to say", and four that a tired engineer might write. proofs/Rejected.antt shows each rejected, by the demand named here. Assumes nothing.
+-- WRONG CARDS, 01 "How much a promise has to say", and four that a tired engineer might write. proofs/Rejected.antt shows each rejected, by the demand
+-- named here. Assumes nothing.
 use Prim.Native.Nat.{ℕ, _+_, _-_}
 use mathlib.Core.List.{List, []}
 use mathlib.Core.Bool.{Bool, false, cond, not, _||_}
 use lib.ListN.{length}
 use lib.Dec.{leb, eqb}
 use Rattle.wire.specs.Wire.{be2}
-use Rattle.fields.specs.Fields.{Tagged}
+use Rattle.fields.specs.Fields.{View, wellFormed, Tagged}
 use Rattle.card.specs.declared.Wallet.{Wallet}
 use Rattle.card.specs.declared.Face.{Face}
 use Rattle.card.specs.declared.Card.{Card}
 use Rattle.card.specs.Image.{decode}
 use Rattle.card.specs.Valid.{isCard}
 use Rattle.card.specs.Values.{u32, risen, heldLast, purged, withWallet, withCounters, withLast}
+use Rattle.manual.specs.Words.{swProcessCompleted, swInvalidStatus, questionsRoom, drawSize}
 use Rattle.manual.specs.declared.Command.{Command}
-use Rattle.manual.specs.declared.Command.the-variants.{ReadCard, Sign, PurgeWallet, WriteIssuerData}
-use Rattle.manual.specs.Row.{Matched}
+use Rattle.manual.specs.declared.Command.the-variants.{ReadCard, SetPin, Sign, PurgeWallet, WriteIssuerData}
 use Rattle.manual.specs.declared.Verdict.{Verdict}
 use Rattle.manual.specs.declared.Verdict.the-variants.{Pass, Stop}
-use Rattle.manual.specs.Request.{command, payload}
-use Rattle.manual.specs.Row.{Question, asked, Row, gateOf, rules, passed}
+use Rattle.manual.specs.Request.{code, command, payload}
+use Rattle.manual.specs.Row.{Matched, Question, asked, Row, gateOf, rules, passed}
 use Rattle.manual.specs.Wallet.{readCard, sign, purgeWallet, readFields, isNew, count, newCodes}
 use Rattle.manual.specs.Storage.{guarded, sentCounter, writeIssuerData}
 use Rattle.manual.specs.Commands.{row}
-use Rattle.manual.specs.Settle.{matched, wordOf, Said, refused, answered, untouched, outcome, posed, posedBy, lent, roomy}
-use Rattle.history.specs.Sums.{code}
+use Rattle.manual.specs.Settle.{sentIn, matched, wordOf, Said, refused, answered, untouched, outcome, posed, posedBy, lent, roomy}
 use Rattle.history.specs.Demands.{AnyCard}
 
 -- THE INSIDE of a card: what it asks and says of a card that was read from its image, and which card it leaves
@@ -38,38 +38,50 @@ abbrev pub outside : Inside → AnyCard
 outside x =
     record {
       ask =
-          λ m q d page.
+          λ m i.
           cond (isCard m)
-          (cond (leb 2048 (length page))
-          (cond (eqb (length d) 32) (posed (wordOf (x .verdict (decode m) q)) (asked (x .asks (decode m) q d)) page) (posedBy (outcome 3 0 0) page))
-          (posedBy (outcome 2 0 0) page))
-          (posedBy (outcome 1 0 0) page);
+          (cond (leb questionsRoom (length (i .page)))
+          (cond (eqb (length (i .draw)) drawSize)
+          (posed (wordOf (x .verdict (decode m) (i .request))) (asked (x .asks (decode m) (i .request) (i .draw))) (i .page))
+          (posedBy (outcome 3 0 0) (i .page)))
+          (posedBy (outcome 2 0 0) (i .page)))
+          (posedBy (outcome 1 0 0) (i .page));
       settle =
-          λ m q d a out nxt.
+          λ m i.
+          let s : Said = x .says (decode m) (i .request) (i .draw) (i .answers) in
           cond (isCard m)
-          (cond (roomy (length out) (length nxt))
-          (cond (eqb (length d) 32) (lent (x .says (decode m) q d a) (x .leaves (decode m) q (x .says (decode m) q d a)) out nxt) (untouched 3 out nxt))
-          (untouched 2 out nxt))
-          (untouched 1 out nxt);
+          (cond (roomy (length (i .out)) (length (i .next)))
+          (cond (eqb (length (i .draw)) drawSize)
+          (lent s (x .leaves (decode m) (i .request) s) (i .out) (i .next))
+          (untouched 3 (i .out) (i .next)))
+          (untouched 2 (i .out) (i .next)))
+          (untouched 1 (i .out) (i .next));
     }
 
 -- a card with these rows
 abbrev pub judgedBy : (Command → Row) → Card → List ℕ → Verdict
-judgedBy r c q = gateOf (rules (r (command q)) (matched (c .codes) (payload q)) (c .face) q) (passed q)
+judgedBy r c q =
+    gateOf (rules (r (command q)) (matched (c .codes) (sentIn q)) (c .face) (wellFormed (payload q)) (sentIn q) q) (passed q)
 
 abbrev pub asksBy : (Command → Row) → Verdict → Card → List ℕ → List ℕ → List Question
 asksBy r (Stop n w) c q d = []
-asksBy r (Pass k) c q d = r k .questions (c .face) (payload q) d
+asksBy r (Pass k) c q d = r k .questions (c .face) (sentIn q) d
 
 abbrev pub saysBy : (Command → Row) → Verdict → Card → List ℕ → List ℕ → List ℕ → Said
 saysBy r (Stop n w) c q d a = refused w (c .face)
-saysBy r (Pass k) c q d a = answered (r k) (matched (c .codes) (payload q)) (c .face) (payload q) d a
+saysBy r (Pass k) c q d a = answered (r k) (matched (c .codes) (sentIn q)) (c .face) (sentIn q) d a
 
 abbrev pub leavesBy : (Command → Row) → Card → List ℕ → Said → Card
-leavesBy r c q s = record { face = s .face; codes = cond (s .executed) (r (command q) .recode (payload q) (c .codes)) (c .codes) }
+leavesBy r c q s = record { face = s .face; codes = cond (s .executed) (r (command q) .recode (sentIn q) (c .codes)) (c .codes) }
 
 abbrev pub byRows : (Command → Row) → Inside
-byRows r = record { verdict = judgedBy r; asks = λ c q d. asksBy r (judgedBy r c q) c q d; says = λ c q d a. saysBy r (judgedBy r c q) c q d a; leaves = leavesBy r }
+byRows r =
+    record {
+      verdict = judgedBy r;
+      asks = λ c q d. asksBy r (judgedBy r c q) c q d;
+      says = λ c q d a. saysBy r (judgedBy r c q) c q d a;
+      leaves = leavesBy r;
+    }
 
 -- the manual's rows
 abbrev pub honest : Inside
@@ -78,13 +90,20 @@ honest = byRows row
 -- 1. ANSWERS 6985 TO EVERYTHING (demand 2)
 abbrev pub refuser : AnyCard
 refuser =
-    outside (record { verdict = λ c q. Stop 12 0x6985; asks = λ c q d. []; says = λ c q d a. refused 0x6985 (c .face); leaves = λ c q s. c })
+    outside
+    (record {
+      verdict = λ c q. Stop 12 swInvalidStatus;
+      asks = λ c q d. [];
+      says = λ c q d a. refused swInvalidStatus (c .face);
+      leaves = λ c q s. c;
+    })
 
 -- 2. GIVES 9000 TO EVERYTHING (demand 2)
+abbrev pub yes : Face → Said
+yes f = record { number = 0; word = swProcessCompleted; response = be2 swProcessCompleted; face = f; executed = false }
+
 abbrev pub yesSayer : AnyCard
-yesSayer =
-    outside
-    (record { verdict = λ c q. passed q; asks = λ c q d. []; says = λ c q d a. record { number = 0; word = 0x9000; response = be2 0x9000; face = c .face; executed = false }; leaves = λ c q s. c })
+yesSayer = outside (record { verdict = λ c q. passed q; asks = λ c q d. []; says = λ c q d a. yes (c .face); leaves = λ c q s. c })
 
 -- 3. NEVER CHANGES THE IMAGE (demand 2)
 abbrev pub forgetter : AnyCard
@@ -95,50 +114,92 @@ abbrev pub but : Command → Row → Command → Row
 but k r j = cond (eqb (code j) (code k)) r (row j)
 
 -- a row, but for one column
-abbrev pub withConditions : (Matched → Face → List ℕ → Bool) → Row → Row
-withConditions g r = record { needs = r .needs; pin2 = r .pin2; fields = r .fields; conditions = g; questions = r .questions; confirmed = r .confirmed; next = r .next; recode = r .recode; fieldsOut = r .fieldsOut; more = r .more }
+abbrev pub withConditions : (Matched → Face → View → Bool) → Row → Row
+withConditions g r =
+    record {
+      needs = r .needs;
+      pin2 = r .pin2;
+      fields = r .fields;
+      conditions = g;
+      questions = r .questions;
+      confirmed = r .confirmed;
+      next = r .next;
+      recode = r .recode;
+      fieldsOut = r .fieldsOut;
+      more = r .more;
+    }
 
-abbrev pub withNext : (Face → List ℕ → List ℕ → Face) → Row → Row
-withNext g r = record { needs = r .needs; pin2 = r .pin2; fields = r .fields; conditions = r .conditions; questions = r .questions; confirmed = r .confirmed; next = g; recode = r .recode; fieldsOut = r .fieldsOut; more = r .more }
+abbrev pub withNext : (Face → View → List ℕ → Face) → Row → Row
+withNext g r =
+    record {
+      needs = r .needs;
+      pin2 = r .pin2;
+      fields = r .fields;
+      conditions = r .conditions;
+      questions = r .questions;
+      confirmed = r .confirmed;
+      next = g;
+      recode = r .recode;
+      fieldsOut = r .fieldsOut;
+      more = r .more;
+    }
 
-abbrev pub withFieldsOut : (Face → List ℕ → List ℕ → List ℕ → List Tagged) → Row → Row
-withFieldsOut g r = record { needs = r .needs; pin2 = r .pin2; fields = r .fields; conditions = r .conditions; questions = r .questions; confirmed = r .confirmed; next = r .next; recode = r .recode; fieldsOut = g; more = r .more }
+abbrev pub withFieldsOut : (Face → View → List ℕ → List ℕ → List Tagged) → Row → Row
+withFieldsOut g r =
+    record {
+      needs = r .needs;
+      pin2 = r .pin2;
+      fields = r .fields;
+      conditions = r .conditions;
+      questions = r .questions;
+      confirmed = r .confirmed;
+      next = r .next;
+      recode = r .recode;
+      fieldsOut = g;
+      more = r .more;
+    }
 
 -- 4. HONOURS THE FIRST SIGN AND AFTERWARDS REPEATS ITS SIGNATURES (demands 2 and 3): it asks, and counts, and answers the old ones
 abbrev pub keptLast : Face → Face → Face
 keptLast f g = cond (eqb (f .last .count) 0) g (withLast (f .last) g)
 
 abbrev pub repeater : AnyCard
-repeater = outside (byRows (but Sign (withNext (λ f p a. keptLast f (sign .next f p a)) sign)))
+repeater = outside (byRows (but Sign (withNext (λ f v a. keptLast f (sign .next f v a)) sign)))
 
 -- 5. REPORTS A SIGNED_HASHES OF ITS OWN MAKING (demand 3), all else being right
 abbrev pub boasting : Face → Face
-boasting f = withWallet (record { status = f .wallet .status; number = f .wallet .number; remaining = f .wallet .remaining; signed = 7 }) f
+boasting f =
+    let w : Wallet = f .front .wallet in
+    withWallet (record { status = w .status; number = w .number; remaining = w .remaining; signed = 7 }) f
 
 abbrev pub proud : AnyCard
-proud = outside (byRows (but ReadCard (withFieldsOut (λ f p d a. readFields (boasting f)) readCard)))
+proud = outside (byRows (but ReadCard (withFieldsOut (λ f v d a. readFields (boasting f)) readCard)))
 
 -- 6. TAKES A NOTE WHOSE COUNTER IS NOT ABOVE THE STORED ONE (demand 2), as the old practice card did
+abbrev pub notBelow : Matched → Face → View → Bool
+notBelow m f v = not (guarded f) || leb (f .held .issuer .counter) (sentCounter v)
+
 abbrev pub oldCard : AnyCard
-oldCard = outside (byRows (but WriteIssuerData (withConditions (λ m f p. not (guarded f) || leb (f .issuer .counter) (sentCounter p)) writeIssuerData)))
+oldCard = outside (byRows (but WriteIssuerData (withConditions notBelow writeIssuerData)))
 
 -- 7. TAKES A SIGNATURE OFF REMAINING PER HASH (demand 3)
 abbrev pub spentEach : ℕ → Wallet → Wallet
 spentEach n w = record { status = w .status; number = w .number; remaining = w .remaining - n; signed = u32 (w .signed + n) }
 
 abbrev pub signedEach : Face → ℕ → List ℕ → Face
-signedEach f n a = withLast (heldLast a) (withCounters (risen (f .counters)) (withWallet (spentEach n (f .wallet)) f))
+signedEach f n a = withLast (heldLast a) (withCounters (risen (f .front .counters)) (withWallet (spentEach n (f .front .wallet)) f))
 
 abbrev pub greedy : AnyCard
-greedy = outside (byRows (but Sign (withNext (λ f p a. cond (isNew p) (signedEach f (count p) a) f) sign)))
+greedy = outside (byRows (but Sign (withNext (λ f v a. cond (isNew v) (signedEach f (count v) a) f) sign)))
 
 -- 8. STORES THE NEW CODES BEFORE IT LOOKS WHETHER THEY MAY CHANGE (demand 3): a refused SET_PIN is in force
 abbrev pub hastily : Card → List ℕ → Said → Card
-hastily c q s = record { face = s .face; codes = cond (eqb (code (command q)) 0xFA) (newCodes (payload q)) (c .codes) }
+hastily c q s = record { face = s .face; codes = cond (eqb (code (command q)) (code SetPin)) (newCodes (sentIn q)) (c .codes) }
 
 abbrev pub hasty : AnyCard
 hasty = outside (record { verdict = honest .verdict; asks = honest .asks; says = honest .says; leaves = hastily })
 
 -- 9. KEEPS THE PURGED KEY (demand 2)
 abbrev pub hoarder : AnyCard
-hoarder = outside (byRows (but PurgeWallet (withNext (λ f p a. withWallet (purged (f .flags .reusable) (f .wallet)) f) purgeWallet)))
+hoarder =
+    outside (byRows (but PurgeWallet (withNext (λ f v a. withWallet (purged (f .front .flags .reusable) (f .front .wallet)) f) purgeWallet)))

@@ -1,149 +1,175 @@
-// The image of a card, 01 "What the card is made of" and docs/IMAGE.md: the groups of values that bytes spell, the bytes that spell
-// a card, groups written anew in an image, and whether an image is a card.
-pub mod anew;
-mod reading;
+// The image of a card, docs/IMAGE.md: its values, read where they stand, and whether it is a card. Total: what bytes spell is read
+// from any bytes, and a value past their end is 0 or nothing.
 mod valid;
-mod writing;
 
-use card::Card;
+use card::Block;
 use card::Codes;
 use card::Counters;
 use card::Fixed;
 use card::Flags;
-use card::Front;
-use card::IMAGE_SIZE;
-use card::LOADED;
-use card::SECP256K1;
+use card::Key;
+use card::Last;
 use card::Wallet;
+use card::layout;
 use wire::Check;
 ghost use mathlib.Core.Path.{_≡_};
-ghost use lib.ListN.{length};
-ghost use Rattle.wire.specs.Wire.{verdict, part, Wrote};
-ghost use Rattle.card.specs.Values.{front, blockOf, lastOf};
-ghost use Rattle.card.specs.Image.{encode, decode};
-ghost use Rattle.card.specs.Valid.{keySize, isCard};
-ghost use Rattle.image.specs.Group.{groupAt, blockIn};
+ghost use Rattle.wire.specs.Wire.{verdict};
+ghost use Rattle.card.specs.Values.{keyOf, blockOf, lastOf};
+ghost use Rattle.card.specs.Image.{decBlock, decode};
+ghost use Rattle.card.specs.Valid.{isCard};
 
-// What bytes spell; whether it is a card says `is_card`.
-pub fn codes(img: &[u8]) -> Codes
-    ensures { λ r. ⌜ r ≡ decode (now (img .entry)) .codes ⌝ }
+pub fn pin1(img: &[u8]) -> &[u8]
+    ensures { λ r. ⌜ now r ≡ decode (now (img .entry)) .codes .pin1 ⌝ }
 {
-    reading::read_codes(img, 0)
+    wire::part(img, layout::CODES_AT, Codes::PIN_SIZE)
 }
 
-fn face(img: &[u8]) -> &[u8]
-    ensures { λ r. ⌜ now r ≡ part (now (img .entry)) 64 2365 ⌝ }
+pub fn pin2(img: &[u8]) -> &[u8]
+    ensures { λ r. ⌜ now r ≡ decode (now (img .entry)) .codes .pin2 ⌝ }
 {
-    wire::part(img, 64, 2365)
+    wire::part(img, layout::CODES_AT + Codes::PIN_SIZE, Codes::PIN_SIZE)
 }
 
-pub fn front(img: &[u8]) -> Front
-    ensures { λ r. ⌜ r ≡ front (decode (now (img .entry)) .face) ⌝ }
+pub fn cid(img: &[u8]) -> &[u8]
+    ensures { λ r. ⌜ now r ≡ decode (now (img .entry)) .face .front .fixed .cid ⌝ }
 {
-    reading::read_front(img, 64)
+    wire::part(img, layout::FIXED_AT, Fixed::CID_SIZE)
 }
 
-pub fn fixed(img: &[u8]) -> Fixed
-    ensures { λ r. ⌜ r ≡ decode (now (img .entry)) .face .fixed ⌝ }
+pub fn cvc(img: &[u8]) -> &[u8]
+    ensures { λ r. ⌜ now r ≡ decode (now (img .entry)) .face .front .fixed .cvc ⌝ }
 {
-    reading::read_fixed(face(img), 0)
+    wire::part(img, layout::FIXED_AT + 8, Fixed::CVC_SIZE)
+}
+
+pub fn curve(img: &[u8]) -> u8
+    ensures { λ r. ⌜ r ≡ decode (now (img .entry)) .face .front .fixed .curve ⌝ }
+{
+    wire::get8(img, layout::FIXED_AT as u32 + 11)
+}
+
+pub fn max(img: &[u8]) -> u32
+    ensures { λ r. ⌜ r ≡ decode (now (img .entry)) .face .front .fixed .max ⌝ }
+{
+    wire::get32(img, layout::FIXED_AT as u16 + 12)
 }
 
 pub fn flags(img: &[u8]) -> Flags
-    ensures { λ r. ⌜ r ≡ decode (now (img .entry)) .face .flags ⌝ }
+    ensures { λ r. ⌜ r ≡ decode (now (img .entry)) .face .front .flags ⌝ }
 {
-    reading::read_flags(face(img), 16)
+    let at = layout::FLAGS_AT as u32;
+    Flags {
+        reusable: wire::get8(img, at),
+        usecvc: wire::get8(img, at + 1),
+        setpin1: wire::get8(img, at + 2),
+        setpin2: wire::get8(img, at + 3),
+        nopurge: wire::get8(img, at + 4),
+        replay: wire::get8(img, at + 5),
+        active: wire::get8(img, at + 6),
+    }
 }
 
 pub fn wallet(img: &[u8]) -> Wallet
-    ensures { λ r. ⌜ r ≡ decode (now (img .entry)) .face .wallet ⌝ }
+    ensures { λ r. ⌜ r ≡ decode (now (img .entry)) .face .front .wallet ⌝ }
 {
-    reading::read_wallet(face(img), 23)
+    let at = layout::WALLET_AT as u16;
+    Wallet {
+        status: wire::get8(img, at as u32),
+        number: wire::get16(img, at + 1),
+        remaining: wire::get32(img, at + 3),
+        signed: wire::get32(img, at + 7),
+    }
+}
+
+// Wallet_PublicKey; nothing where there is none.
+pub fn key(img: &[u8]) -> &[u8]
+    ensures { λ r. ⌜ now r ≡ keyOf (decode (now (img .entry)) .face .front .key) ⌝ }
+{
+    let room = wire::part(img, layout::KEY_AT + 1, Key::ROOM);
+    wire::part(room, 0, wire::get8(img, layout::KEY_AT as u32) as usize)
 }
 
 pub fn counters(img: &[u8]) -> Counters
-    ensures { λ r. ⌜ r ≡ decode (now (img .entry)) .face .counters ⌝ }
+    ensures { λ r. ⌜ r ≡ decode (now (img .entry)) .face .front .counters ⌝ }
 {
-    reading::read_counters(face(img), 100)
+    let at = layout::COUNTERS_AT as u16;
+    Counters {
+        checks: wire::get32(img, at),
+        validations: wire::get16(img, at + 4),
+        user: wire::get32(img, at + 6),
+        protected: wire::get32(img, at + 10),
+    }
 }
 
-// A group of bytes that begins with a block, where it stands; nothing where an image is too short for it.
-pub fn user(img: &[u8]) -> &[u8]
-    ensures { λ r. ⌜ (now r ≡ groupAt 114 514 (now (img .entry))) × (blockIn (now r) ≡ decode (now (img .entry)) .face .user) ⌝ }
+// What a block holds.
+fn content(img: &[u8], at: u16) -> &[u8]
+    ensures { λ r. ⌜ now r ≡ blockOf (decBlock at (now (img .entry))) ⌝ }
 {
-    wire::part(face(img), 114, 514)
+    let room = wire::part(img, at as usize + 2, Block::ROOM);
+    wire::part(room, 0, wire::get16(img, at) as usize)
+}
+
+pub fn user(img: &[u8]) -> &[u8]
+    ensures { λ r. ⌜ now r ≡ blockOf (decode (now (img .entry)) .face .held .user) ⌝ }
+{
+    content(img, layout::USER_AT as u16)
 }
 
 pub fn protected(img: &[u8]) -> &[u8]
-    ensures { λ r. ⌜ (now r ≡ groupAt 628 514 (now (img .entry))) × (blockIn (now r) ≡ decode (now (img .entry)) .face .protected) ⌝ }
+    ensures { λ r. ⌜ now r ≡ blockOf (decode (now (img .entry)) .face .held .protected) ⌝ }
 {
-    wire::part(face(img), 628, 514)
+    content(img, layout::PROTECTED_AT as u16)
 }
 
 pub fn note(img: &[u8]) -> &[u8]
-    ensures { λ r. ⌜ (now r ≡ groupAt 1142 582 (now (img .entry))) × (blockIn (now r) ≡ decode (now (img .entry)) .face .issuer .block) ⌝ }
+    ensures { λ r. ⌜ now r ≡ blockOf (decode (now (img .entry)) .face .held .issuer .block) ⌝ }
 {
-    wire::part(face(img), 1142, 582)
+    content(img, layout::ISSUER_AT as u16)
 }
 
-pub fn size(block: &[u8]) -> u16
-    ensures { λ r. ⌜ r ≡ blockIn (now (block .entry)) .size ⌝ }
+pub fn note_signature(img: &[u8]) -> &[u8]
+    ensures { λ r. ⌜ now r ≡ decode (now (img .entry)) .face .held .issuer .signature ⌝ }
 {
-    wire::get16(wire::part(block, 0, 514), 0)
+    wire::part(
+        img,
+        layout::ISSUER_AT + layout::BLOCK_WIDTH,
+        Last::SIGNATURE_SIZE,
+    )
 }
 
-// The data of a block, where it stands.
-pub fn content(block: &[u8]) -> &[u8]
-    ensures { λ r. ⌜ now r ≡ blockOf (blockIn (now (block .entry))) ⌝ }
+pub fn note_counter(img: &[u8]) -> u32
+    ensures { λ r. ⌜ r ≡ decode (now (img .entry)) .face .held .issuer .counter ⌝ }
 {
-    let s = wire::part(block, 0, 514);
-    wire::part(wire::part(s, 2, 512), 0, wire::get16(s, 0) as usize)
+    wire::get32(
+        img,
+        (layout::ISSUER_AT + layout::BLOCK_WIDTH + Last::SIGNATURE_SIZE) as u16,
+    )
 }
 
-pub fn signature(img: &[u8]) -> [u8; 64]
-    ensures { λ r. ⌜ r ≡ decode (now (img .entry)) .face .issuer .signature ⌝ }
+// How many last signatures there are.
+pub fn last_count(img: &[u8]) -> u8
+    ensures { λ r. ⌜ r ≡ decode (now (img .entry)) .face .last .count ⌝ }
 {
-    wire::take64(wire::part(face(img), 1142, 582), 514)
+    wire::get8(img, layout::LAST_AT as u32)
 }
 
-// The last signatures, where they stand.
 pub fn last(img: &[u8]) -> &[u8]
     ensures { λ r. ⌜ now r ≡ lastOf (decode (now (img .entry)) .face .last) ⌝ }
 {
-    let s = wire::part(face(img), 1724, 641);
-    wire::part(wire::part(s, 1, 640), 0, wire::get8(s, 0) as usize * 64)
-}
-
-// Writes the image at the front of out, where all of it fits, and returns the place after it.
-pub fn write(card: Card, out: &mut [u8]) -> usize
-    ensures { λ r. ⌜ (Wrote (now (out .entry)) 0 (encode card) (now (out .exit)) r) × (length (encode card) ≡ 2429) ⌝ }
-{
-    if wire::has_room(out.len(), 0, IMAGE_SIZE) {
-        let codes = card.codes;
-        let a = writing::write_codes(codes, out, 0);
-        let face = card.face;
-        return writing::write_face(face, out, a);
-    }
-    0
-}
-
-// The size of a key that is present exactly when Loaded.
-pub fn key_size(curve: u8, status: u8) -> u8
-    ensures { λ r. ⌜ r ≡ keySize curve status ⌝ }
-{
-    if status == LOADED {
-        if curve == SECP256K1 {
-            return 65;
-        }
-        return 32;
-    }
-    0
+    let room = wire::part(img, layout::LAST_AT + 1, Last::ROOM);
+    wire::part(
+        room,
+        0,
+        wire::get8(img, layout::LAST_AT as u32) as usize * Last::SIGNATURE_SIZE,
+    )
 }
 
 // Number 1 of ask and settle: whether the image is a card.
 pub fn is_card(img: &[u8]) -> Check
     ensures { λ r. ⌜ r ≡ verdict (isCard (now (img .entry))) ⌝ }
 {
-    let long = img.len() == IMAGE_SIZE;
-    wire::checked(wire::both(long, valid::face_ok(face(img))))
+    if img.len() == layout::IMAGE_SIZE {
+        return wire::checked(valid::face_ok(img));
+    }
+    Check::Failed
 }

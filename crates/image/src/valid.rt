@@ -1,20 +1,19 @@
-// When an image is a card, 01 "What the card is made of": the tests of that sentence, a function for each group of values. What is
-// held is looked at where it stands: it is most of an image.
-use card::ED25519;
-use card::EMPTY;
+// When an image is a card, 01 "What the card is made of": the tests of that sentence, a function for each group of values, each where
+// it stands.
+use card::Block;
 use card::Fixed;
 use card::Flags;
-use card::LOADED;
-use card::PURGED;
-use card::SECP256K1;
+use card::Key;
+use card::Last;
 use card::Wallet;
+use card::layout;
 ghost use mathlib.Core.Path.{_≡_};
 ghost use mathlib.Core.Bool.{cond};
+ghost use Prim.Native.Nat.{ℕ};
+ghost use mathlib.Core.List.{List};
 ghost use lib.Dec.{eqb};
-ghost use Rattle.wire.specs.Wire.{part};
-ghost use Rattle.card.specs.Image.{decKey, decBlock, decIssuer, decLast, decFace};
-ghost use Rattle.card.specs.Valid.{okFlags, okRanges, okState, okKey, okBlock, okIssuer, okLast, okFace};
-ghost use Rattle.image.specs.Halves.{okHeld};
+ghost use Rattle.card.specs.Image.{decode, decKey, decBlock, decIssuer, decLast, decHeld, decFront};
+ghost use Rattle.card.specs.Valid.{keySize, okFlags, okRanges, okState, okKey, okBlock, okIssuer, okLast, okFront, okHeld, okFace};
 
 // Every flag is 0 or 1.
 fn flags_ok(x: Flags) -> bool
@@ -29,22 +28,22 @@ fn flags_ok(x: Flags) -> bool
 }
 
 // Curve, Max_Signatures and Status are known ones; Remaining is at most Max, and 0 unless Loaded.
-fn ranges_ok(x: Fixed, w: Wallet) -> bool
-    ensures { λ r. ⌜ r ≡ okRanges x w ⌝ }
+fn ranges_ok(curve: u8, max: u32, w: Wallet) -> bool
+    ensures { λ r. ⌜ ((cid cvc : List ℕ) → r ≡ okRanges (record { cid = cid; cvc = cvc; curve = curve; max = max }) w) ⌝ }
 {
-    let curve = wire::either(x.curve == SECP256K1, x.curve == ED25519);
-    let begun = wire::either(w.status == LOADED, w.status == PURGED);
-    let status = wire::either(w.status == EMPTY, begun);
-    let idle = wire::either(w.status == LOADED, w.remaining == 0);
-    let counts = wire::both(status, wire::both(w.remaining <= x.max, idle));
-    wire::both(curve, wire::both(1 <= x.max, counts))
+    let known = wire::either(curve == Fixed::SECP256K1, curve == Fixed::ED25519);
+    let begun = wire::either(w.status == Wallet::LOADED, w.status == Wallet::PURGED);
+    let status = wire::either(w.status == Wallet::EMPTY, begun);
+    let idle = wire::either(w.status == Wallet::LOADED, w.remaining == 0);
+    let counts = wire::both(status, wire::both(w.remaining <= max, idle));
+    wire::both(known, wire::both(1 <= max, counts))
 }
 
 // The wallet number that a card has that is not reusable.
 fn only_number(status: u8) -> u16
     ensures { λ r. ⌜ r ≡ cond (eqb status 1) 0 1 ⌝ }
 {
-    if status == EMPTY {
+    if status == Wallet::EMPTY {
         return 0;
     }
     1
@@ -54,77 +53,102 @@ fn only_number(status: u8) -> u16
 fn state_ok(x: Flags, w: Wallet) -> bool
     ensures { λ r. ⌜ r ≡ okState x w ⌝ }
 {
-    let empty = w.status == EMPTY;
+    let empty = w.status == Wallet::EMPTY;
     let asleep = wire::either(x.active == 1, wire::both(empty, w.number == 0));
-    let again = wire::either(x.reusable == 0, wire::either(empty, w.status == LOADED));
+    let again = wire::either(
+        x.reusable == 0,
+        wire::either(empty, w.status == Wallet::LOADED),
+    );
     let once = wire::either(x.reusable == 1, w.number == only_number(w.status));
     let begun = wire::either(empty, 1 <= w.number);
     wire::both(begun, wire::both(once, wire::both(again, asleep)))
 }
 
-// A key of 65 bytes starts with 04; unused room is zero.
-fn key_ok(curve: u8, status: u8, s: &[u8]) -> bool
-    ensures { λ r. ⌜ r ≡ okKey curve status (decKey (now (s .entry))) ⌝ }
+// The size of a key that is present exactly when Loaded.
+fn key_size(curve: u8, status: u8) -> usize
+    ensures { λ r. ⌜ r ≡ keySize curve status ⌝ }
 {
-    let size = wire::get8(s, 0);
-    let bytes = wire::part(s, 1, 65);
-    let start = wire::either(wire::unless(size == 65), wire::get8(bytes, 0) == 4);
+    if status == Wallet::LOADED {
+        if curve == Fixed::SECP256K1 {
+            return Key::ROOM;
+        }
+        return Key::SHORT;
+    }
+    0
+}
+
+// A key of 65 bytes starts with 04; unused room is zero.
+fn key_ok(curve: u8, status: u8, img: &[u8]) -> bool
+    ensures { λ r. ⌜ r ≡ okKey curve status (decKey (now (img .entry))) ⌝ }
+{
+    let size = wire::get8(img, layout::KEY_AT as u32) as usize;
+    let bytes = wire::part(img, layout::KEY_AT + 1, Key::ROOM);
+    let start = wire::either(wire::unless(size == Key::ROOM), wire::get8(bytes, 0) == 4);
     wire::both(
-        size == crate::key_size(curve, status),
-        wire::both(start, wire::zero_from(bytes, size as usize)),
+        size == key_size(curve, status),
+        wire::both(start, wire::zero_from(bytes, size)),
     )
 }
 
 // Data of 0 to 512 bytes; unused room is zero.
-fn block_ok(s: &[u8]) -> bool
-    ensures { λ r. ⌜ r ≡ okBlock (decBlock (now (s .entry))) ⌝ }
+fn block_ok(img: &[u8], at: u16) -> bool
+    ensures { λ r. ⌜ r ≡ okBlock (decBlock at (now (img .entry))) ⌝ }
 {
-    let size = wire::get16(s, 0);
-    let bytes = wire::part(s, 2, 512);
-    wire::both(size <= 512, wire::zero_from(bytes, size as usize))
+    let size = wire::get16(img, at) as usize;
+    let bytes = wire::part(img, at as usize + 2, Block::ROOM);
+    wire::both(size <= Block::ROOM, wire::zero_from(bytes, size))
 }
 
 // While no data is held, the signature is zero too.
-fn issuer_ok(s: &[u8]) -> bool
-    ensures { λ r. ⌜ r ≡ okIssuer (decIssuer (now (s .entry))) ⌝ }
+fn issuer_ok(img: &[u8]) -> bool
+    ensures { λ r. ⌜ r ≡ okIssuer (decIssuer (now (img .entry))) ⌝ }
 {
-    let block = wire::part(s, 0, 514);
-    let signature = wire::part(s, 514, 64);
-    let none = wire::either(1 <= wire::get16(block, 0), wire::zero_from(signature, 0));
-    wire::both(block_ok(block), none)
+    let at = layout::ISSUER_AT as u16;
+    if 1 <= wire::get16(img, at) {
+        return block_ok(img, at);
+    }
+    let signature = wire::part(
+        img,
+        layout::ISSUER_AT + layout::BLOCK_WIDTH,
+        Last::SIGNATURE_SIZE,
+    );
+    wire::both(block_ok(img, at), wire::zero_from(signature, 0))
 }
 
 // 0 to 10 last signatures; unused room is zero.
-fn last_ok(s: &[u8]) -> bool
-    ensures { λ r. ⌜ r ≡ okLast (decLast (now (s .entry))) ⌝ }
+fn last_ok(img: &[u8]) -> bool
+    ensures { λ r. ⌜ r ≡ okLast (decLast (now (img .entry))) ⌝ }
 {
-    let count = wire::get8(s, 0);
-    let signatures = wire::part(s, 1, 640);
+    let count = wire::get8(img, layout::LAST_AT as u32) as usize;
+    let signatures = wire::part(img, layout::LAST_AT + 1, Last::ROOM);
     wire::both(
-        count <= 10,
-        wire::zero_from(signatures, count as usize * 64),
+        count <= Last::MOST_HASHES,
+        wire::zero_from(signatures, count * Last::SIGNATURE_SIZE),
     )
 }
 
-fn held_ok(curve: u8, status: u8, s: &[u8]) -> bool
-    ensures { λ r. ⌜ r ≡ okHeld curve status (decFace (now (s .entry))) ⌝ }
+fn front_ok(img: &[u8]) -> bool
+    ensures { λ r. ⌜ r ≡ okFront (decFront (now (img .entry))) ⌝ }
 {
-    let issuer = issuer_ok(wire::part(s, 1142, 582));
-    let kept = wire::both(issuer, last_ok(wire::part(s, 1724, 641)));
-    let protected = wire::both(block_ok(wire::part(s, 628, 514)), kept);
-    let data = wire::both(block_ok(wire::part(s, 114, 514)), protected);
-    wire::both(key_ok(curve, status, wire::part(s, 34, 66)), data)
+    let flags = crate::flags(img);
+    let wallet = crate::wallet(img);
+    let curve = crate::curve(img);
+    let key = key_ok(curve, wallet.status, img);
+    let state = wire::both(state_ok(flags, wallet), key);
+    let ranges = ranges_ok(curve, crate::max(img), wallet);
+    wire::both(flags_ok(flags), wire::both(ranges, state))
 }
 
-pub fn face_ok(s: &[u8]) -> bool
-    ensures { λ r. ⌜ r ≡ okFace (decFace (now (s .entry))) ⌝ }
+fn held_ok(img: &[u8]) -> bool
+    ensures { λ r. ⌜ r ≡ okHeld (decHeld (now (img .entry))) ⌝ }
 {
-    let fixed = crate::reading::read_fixed(s, 0);
-    let flags = crate::reading::read_flags(s, 16);
-    let wallet = crate::reading::read_wallet(s, 23);
-    let state = wire::both(
-        state_ok(flags, wallet),
-        held_ok(fixed.curve, wallet.status, s),
-    );
-    wire::both(flags_ok(flags), wire::both(ranges_ok(fixed, wallet), state))
+    let protected = block_ok(img, layout::PROTECTED_AT as u16);
+    let kept = wire::both(protected, issuer_ok(img));
+    wire::both(block_ok(img, layout::USER_AT as u16), kept)
+}
+
+pub fn face_ok(img: &[u8]) -> bool
+    ensures { λ r. ⌜ r ≡ okFace (decode (now (img .entry)) .face) ⌝ }
+{
+    wire::both(front_ok(img), wire::both(held_ok(img), last_ok(img)))
 }

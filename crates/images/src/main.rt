@@ -1,12 +1,13 @@
 // Which values each byte of an image may take. tests/images.py made the images, and what must be printed, from 01 "What the card
 // is made of". A line of standard input is an image in hex, 65,536 bytes in all at most. At each place all 256 values are tried,
 // all else as given. Each function here is proved safe and ending; the promises are those of `image`.
-use card::IMAGE_SIZE;
+use card::layout;
 use libc::STDIN_FILENO;
 use libc::STDOUT_FILENO;
 use wire::Check;
 ghost use Prim.Native.Nat.{_+_, _≤_, _<_};
 ghost use lib.ListN.{length};
+ghost use Rattle.card.specs.Layout.{imageSize};
 
 fn say(s: &[u8]) {
     io::write_all(STDOUT_FILENO, s);
@@ -35,7 +36,7 @@ fn try_values(img: &mut [u8], at: usize, flags: &mut [u8]) {
 
 // The image itself is not written to.
 fn try_place(img: &[u8], at: usize, flags: &mut [u8]) {
-    let mut copy = [0u8; 2429];
+    let mut copy = [0u8; layout::IMAGE_SIZE];
     wire::put_bytes(&mut copy, 0, img);
     try_values(&mut copy, at, flags);
 }
@@ -114,11 +115,11 @@ fn takes(img: &[u8], at: usize, values: &[u8]) -> bool {
 
 // The place after the run of places that take these values.
 fn run_end(img: &[u8], from: usize, values: &[u8]) -> usize
-    requires { ⌜ from ≤ 2429 ⌝ }
-    ensures { λ r. ⌜ (from ≤ r) × (r ≤ 2429) ⌝ }
+    requires { ⌜ from ≤ imageSize ⌝ }
+    ensures { λ r. ⌜ (from ≤ r) × (r ≤ imageSize) ⌝ }
 {
     let mut at = from;
-    while at < IMAGE_SIZE {
+    while at < layout::IMAGE_SIZE {
         if wire::unless(takes(img, at, values)) {
             return at;
         }
@@ -139,8 +140,8 @@ fn say_row(first: usize, last: usize, values: &[u8]) {
 }
 
 fn report_run(img: &[u8], first: usize) -> usize
-    requires { ⌜ first < 2429 ⌝ }
-    ensures { λ r. ⌜ (first < r) × (r ≤ 2429) ⌝ }
+    requires { ⌜ first < imageSize ⌝ }
+    ensures { λ r. ⌜ (first < r) × (r ≤ imageSize) ⌝ }
 {
     let mut out = [0u8; 1024];
     let n = put_values(img, first, &mut out);
@@ -152,7 +153,7 @@ fn report_run(img: &[u8], first: usize) -> usize
 
 fn report_runs(img: &[u8]) {
     let mut at = 0;
-    while at < IMAGE_SIZE {
+    while at < layout::IMAGE_SIZE {
         at = report_run(img, at);
     }
 }
@@ -174,7 +175,7 @@ fn image_line(line: &[u8]) {
     let mut space = io::buffer();
     let n = text::unhex(line, &mut space, 0);
     let img = wire::part(&space, 0, n);
-    if n == IMAGE_SIZE {
+    if n == layout::IMAGE_SIZE {
         report(img);
         return;
     }

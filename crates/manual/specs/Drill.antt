@@ -5,27 +5,29 @@ use mathlib.Core.List.{List, [], _∷_, _++_}
 use mathlib.Core.Bool.{false}
 use lib.ListN.{length, replicate}
 use Rattle.wire.specs.Wire.{part, put, fit, room, joined, alike, be2, be4}
-use Rattle.fields.specs.Fields.{ended, one, restFrom, runN, stepAt, fieldAt, wellFormed, has, val, holds, Tagged, fld, headOf, tlv, each, written}
+use Rattle.fields.specs.Fields.{ended, one, restFrom, runN, stepAt, fieldAt, wellFormed, viewOf, has, val, holds, Tagged, fld, headOf, tlv, each, written}
 use Rattle.fields.specs.Drill.{item}
 use Rattle.card.specs.declared.Flags.{Flags}
 use Rattle.card.specs.declared.Codes.{Codes}
 use Rattle.card.specs.declared.Face.{Face}
 use Rattle.card.specs.declared.Card.{Card}
+use Rattle.card.specs.Layout.{pinSize, cidSize, cvcSize, signatureSize}
 use Rattle.card.specs.Values.{noKey, noBlock, noLast, blockOf}
+use Rattle.manual.specs.Tags.{CID, PIN1, PIN2, IssuerData, IssuerDataSignature, IssuerDataCounter, TransactionHash, TransactionHashSize}
 use Rattle.manual.specs.Row.{Matched}
 use Rattle.manual.specs.declared.Verdict.the-variants.{Stop}
 use Rattle.manual.specs.Request.{lcOf, insOf}
-use Rattle.manual.specs.Row.{plain, allowed, sizes, shaped}
+use Rattle.manual.specs.Row.{plain, allowed, shaped}
 use Rattle.manual.specs.Wallet.{sign, hashQuestions}
 use Rattle.manual.specs.Storage.{writeIssuerData}
-use Rattle.manual.specs.Settle.{judged, done, answered, said, Said, saidTo}
+use Rattle.manual.specs.Settle.{judged, judgedBy, sentIn, done, answered, said, Said, saidTo}
 
 -- A CARD to drill on: Loaded, with replay protection, wallet number 1
 abbrev cid0 : List ℕ
-cid0 = replicate 8 7
+cid0 = replicate cidSize 7
 
 abbrev codes0 : Codes
-codes0 = record { pin1 = replicate 32 1; pin2 = replicate 32 2 }
+codes0 = record { pin1 = replicate pinSize 1; pin2 = replicate pinSize 2 }
 
 abbrev flags0 : Flags
 flags0 = record { reusable = 1; usecvc = 0; setpin1 = 1; setpin2 = 1; nopurge = 0; replay = 1; active = 1 }
@@ -34,14 +36,18 @@ abbrev card0 : ℕ → ℕ → ℕ → ℕ → Card
 card0 remaining signed user counter =
     record {
       face = record {
-        fixed = record { cid = cid0; cvc = replicate 3 48; curve = 1; max = 100 };
-        flags = flags0;
-        wallet = record { status = 2; number = 1; remaining = remaining; signed = signed };
-        key = noKey;
-        counters = record { checks = 0; validations = 0; user = user; protected = 0 };
-        user = noBlock;
-        protected = noBlock;
-        issuer = record { block = noBlock; signature = replicate 64 0; counter = counter };
+        front = record {
+          fixed = record { cid = cid0; cvc = replicate cvcSize 48; curve = 1; max = 100 };
+          flags = flags0;
+          wallet = record { status = 2; number = 1; remaining = remaining; signed = signed };
+          key = noKey;
+          counters = record { checks = 0; validations = 0; user = user; protected = 0 };
+        };
+        held = record {
+          user = noBlock;
+          protected = noBlock;
+          issuer = record { block = noBlock; signature = replicate signatureSize 0; counter = counter };
+        };
         last = noLast;
       };
       codes = codes0;
@@ -50,15 +56,15 @@ card0 remaining signed user counter =
 -- a request under its codes
 abbrev request : ℕ → List Tagged → List ℕ
 request ins fs =
-    let p : List ℕ = written (fld 0x10 (codes0 .pin1) ∷ fld 0x01 cid0 ∷ fld 0x11 (codes0 .pin2) ∷ fs) in
+    let p : List ℕ = written (fld PIN1 (codes0 .pin1) ∷ fld CID cid0 ∷ fld PIN2 (codes0 .pin2) ∷ fs) in
     0 ∷ ins ∷ 0 ∷ 0 ∷ 0 ∷ (be2 (length p) ++ p)
 
 -- a note with a counter, and a SIGN over n hashes
 abbrev note : ℕ → List ℕ
-note n = request 0xF6 (fld 0x32 (0x4F ∷ 0x4B ∷ []) ∷ fld 0x33 (replicate 64 9) ∷ fld 0x35 (be4 n) ∷ [])
+note n = request 0xF6 (fld IssuerData (0x4F ∷ 0x4B ∷ []) ∷ fld IssuerDataSignature (replicate signatureSize 9) ∷ fld IssuerDataCounter (be4 n) ∷ [])
 
 abbrev signing : ℕ → List ℕ
-signing size = request 0xFB (fld 0x50 (replicate size 3) ∷ fld 0x51 (32 ∷ []) ∷ [])
+signing size = request 0xFB (fld TransactionHash (replicate size 3) ∷ fld TransactionHashSize (32 ∷ []) ∷ [])
 
 abbrev draw0 : List ℕ
 draw0 = replicate 32 0
@@ -88,14 +94,14 @@ pub drill :
     -- (8) protected, stored counter 9, sent 9: 6985
     × (saidTo (card0 5 0 0 9) (note 9) draw0 (1 ∷ []) .word ≡ 0x6985)
     -- (9) the same, sent 10, answer 1: stored
-    × (noted .word ≡ 0x9000) × (noted .face .issuer .counter ≡ 10) × (blockOf (noted .face .issuer .block) ≡ 0x4F ∷ 0x4B ∷ [])
+    × (noted .word ≡ 0x9000) × (noted .face .held .issuer .counter ≡ 10) × (blockOf (noted .face .held .issuer .block) ≡ 0x4F ∷ 0x4B ∷ [])
     -- (10) five hashes at Remaining 1: Remaining 0, Signed_Hashes up 5
-    × (five 1 20 0 .word ≡ 0x9000) × (five 1 20 0 .face .wallet .remaining ≡ 0) × (five 1 20 0 .face .wallet .signed ≡ 25)
+    × (five 1 20 0 .word ≡ 0x9000) × (five 1 20 0 .face .front .wallet .remaining ≡ 0) × (five 1 20 0 .face .front .wallet .signed ≡ 25)
     -- (11) six at Signed_Hashes 4,294,967,290: 6985; five: done
     × (saidTo (card0 5 4294967290 0 0) (signing 192) draw0 (replicate 384 5) .word ≡ 0x6985)
-    × (five 5 4294967290 0 .word ≡ 0x9000) × (five 5 4294967290 0 .face .wallet .signed ≡ 4294967295)
+    × (five 5 4294967290 0 .word ≡ 0x9000) × (five 5 4294967290 0 .face .front .wallet .signed ≡ 4294967295)
     -- (12) user counter 4,294,967,295 after a SIGN: 0
-    × (five 5 0 4294967295 .face .counters .user ≡ 0)
-unfolding restFrom runN stepAt fieldAt wellFormed has val holds part alike written each joined tlv headOf put fit room blockOf lcOf insOf plain allowed judged said answered done sizes shaped hashQuestions sign writeIssuerData
+    × (five 5 0 4294967295 .face .front .counters .user ≡ 0)
+unfolding restFrom runN stepAt fieldAt wellFormed viewOf sentIn judgedBy has val holds part alike written each joined tlv headOf put fit room blockOf lcOf insOf plain allowed said answered done shaped hashQuestions sign writeIssuerData
 drill =
     (refl, refl, refl, refl, (λ m f. refl), (λ m f. refl), (λ m f. refl), refl, refl, refl, refl, refl, refl, refl, refl, refl, refl, refl)

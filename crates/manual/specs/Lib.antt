@@ -1,3 +1,5 @@
+pub mod Words
+pub mod Tags
 pub mod Request
 pub mod Row
 pub mod Wallet

@@ -2,17 +2,20 @@
 use Prim.Native.Nat.{ℕ, _+_}
 use mathlib.Core.List.{List, [], _∷_, _++_}
 use mathlib.Core.Bool.{Bool, true, cond, not, _&&_, _||_}
-use lib.ListN.{length, getD}
+use lib.ListN.{length, getD, take, drop}
 use lib.Dec.{leb, eqb}
 use Rattle.wire.specs.Wire.{be1, be2, joined}
-use Rattle.fields.specs.Fields.{wellFormed, holds, Tagged}
+use Rattle.fields.specs.Fields.{View, holds, Tagged}
 use Rattle.card.specs.declared.Face.{Face}
 use Rattle.card.specs.declared.Codes.{Codes}
+use Rattle.card.specs.Layout.{keyRoom, keyShort, signatureSize}
 use Rattle.card.specs.Values.{u16}
+use Rattle.manual.specs.Words.{swWrongLength, swClaNotSupported, swInsNotSupported, swNeedEncryption, swInvalidParams, swInvalidStatus}
+use Rattle.manual.specs.Tags.{CID, CVC}
 use Rattle.manual.specs.declared.Needs.{Needs}
 use Rattle.manual.specs.declared.Verdict.{Verdict}
 use Rattle.manual.specs.declared.Verdict.the-variants.{Pass, Stop}
-use Rattle.manual.specs.Request.{lcOf, fits, insOf, listed, command, payload}
+use Rattle.manual.specs.Request.{lcOf, fits, insOf, listed, command}
 
 -- QUESTIONS: kind (1), wallet number (2), curve (1), message length (2), message, whose parts follow one another
 pub record Question : Type 0 where
@@ -38,25 +41,36 @@ eachAsked (x ∷ xs) = (headOf x ∷ x .message) ++ eachAsked xs
 unfoldable pub asked : List Question → List ℕ
 asked xs = joined (eachAsked xs)
 
--- ANSWERS: the key, 64 bytes for kinds 2 to 4, one byte for kind 5, with nothing between
-abbrev pub keyLength : ℕ → ℕ
-keyLength curve = cond (eqb curve 1) 65 32
+-- ANSWERS: how long an answer to a question may be, from the least to the most, and what its first byte may be
+pub record Answer : Type 0 where
+  pub least : ℕ
+  pub most : ℕ
+  pub first : ℕ → Bool
 
-abbrev pub sizeOf : Question → ℕ
-sizeOf x = cond (eqb (x .kind) 1) (keyLength (x .curve)) (cond (eqb (x .kind) 5) 1 64)
+abbrev pub exactly : ℕ → (ℕ → Bool) → Answer
+exactly n g = record { least = n; most = n; first = g }
 
-unfoldable pub sizes : List Question → ℕ
-sizes [] = 0
-sizes (x ∷ xs) = sizeOf x + sizes xs
+abbrev pub anyByte : ℕ → Bool
+anyByte b = true
 
--- a key of 65 bytes starts with 04; the byte of kind 5 is 0 or 1. Both kinds are asked alone
-abbrev pub firstOk : List Question → List ℕ → Bool
-firstOk [] a = true
-firstOk (x ∷ xs) a = cond (eqb (x .kind) 1) (not (eqb (x .curve) 1) || eqb (getD a 0 0) 4) (not (eqb (x .kind) 5) || leb (getD a 0 0) 1)
+-- kind 1: the key, of 65 bytes starting 04 or of 32; kind 5: one byte, 0 or 1; kinds 2 to 4: 64 bytes
+abbrev pub keyAnswer : ℕ → Answer
+keyAnswer curve = cond (eqb curve 1) (exactly keyRoom (λ b. eqb b 4)) (exactly keyShort anyByte)
 
--- any other total length, kind 5 byte, or key is number 4
+abbrev pub answerTo : Question → Answer
+answerTo x =
+    cond (eqb (x .kind) 1) (keyAnswer (x .curve))
+    (cond (eqb (x .kind) 5) (exactly 1 (λ b. leb b 1))
+    (exactly signatureSize anyByte))
+
+abbrev pub fitting : Answer → List ℕ → Bool
+fitting w a = leb (w .least) (length a) && (leb (length a) (w .most) && w .first (getD a 0 0))
+
+-- "Answers follow one another with nothing between"; anything else is number 4. Only the last may have a length that is not fixed
 unfoldable pub shaped : List Question → List ℕ → Bool
-shaped xs a = eqb (length a) (sizes xs) && firstOk xs a
+shaped [] a = eqb (length a) 0
+shaped (x ∷ []) a = fitting (answerTo x) a
+shaped (x ∷ y ∷ ys) a = fitting (answerTo x) (take (answerTo x .least) a) && shaped (y ∷ ys) (drop (answerTo x .least) a)
 
 -- how the codes of a request compare with those of the card: all that is ever seen of them
 pub record Matched : Type 0 where
@@ -65,21 +79,21 @@ pub record Matched : Type 0 where
   pub new1 : Bool
   pub new2 : Bool
 
--- A COMMAND. f is the face of the card, p the payload, d the draw, a the answers; no part of it sees the codes
+-- A COMMAND. f is the face of the card, v the view of the payload, d the draw, a the answers; no part of it sees the codes
 pub record Row : Type 0 where
   pub needs : Needs  -- checks 7 to 10
-  pub pin2 : List ℕ → Bool  -- check 10, of p
-  pub fields : Face → List ℕ → Bool  -- check 11, of f and p
-  pub conditions : Matched → Face → List ℕ → Bool  -- check 12, of f and p
-  pub questions : Face → List ℕ → List ℕ → List Question  -- of f, p and d
+  pub pin2 : View → Bool  -- check 10, of v
+  pub fields : Face → View → Bool  -- check 11, of f and v
+  pub conditions : Matched → Face → View → Bool  -- check 12, of f and v
+  pub questions : Face → View → List ℕ → List Question  -- of f, v and d
   pub confirmed : List ℕ → Bool  -- check 13, of a
-  pub next : Face → List ℕ → List ℕ → Face  -- the face after, of f, p and a
-  pub recode : List ℕ → Codes → Codes  -- the codes after, of p
-  pub fieldsOut : Face → List ℕ → List ℕ → List ℕ → List Tagged  -- of the face after, p, d and a; CID comes first by itself
+  pub next : Face → View → List ℕ → Face  -- the face after, of f, v and a
+  pub recode : View → Codes → Codes  -- the codes after, of v
+  pub fieldsOut : Face → View → List ℕ → List ℕ → List Tagged  -- of the face after, v, d and a; CID comes first by itself
   pub more : Matched → ℕ  -- what is added to 9000
 
-abbrev pub stays : List ℕ → Codes → Codes
-stays p x = x
+abbrev pub stays : View → Codes → Codes
+stays v x = x
 
 -- CHECKS, in order; the first failure decides
 pub record Rule : Type 0 where
@@ -104,39 +118,43 @@ allowed n s = cond (eqb s 1) (n .empty) (cond (eqb s 2) (n .loaded) (n .purged))
 -- checks 1 to 3: what the request is
 abbrev pub headRules : List ℕ → List Rule
 headRules q =
-    rule 1 (fits (lcOf q)) 0x6700
-    ∷ rule 2 (eqb (getD q 0 0) 0) 0x6E00
-    ∷ rule 3 (listed (insOf (getD q 1 0))) 0x6D00
+    rule 1 (fits (lcOf q)) swWrongLength
+    ∷ rule 2 (eqb (getD q 0 0) 0) swClaNotSupported
+    ∷ rule 3 (listed (insOf (getD q 1 0))) swInsNotSupported
     ∷ []
 
--- checks 4 and 5: its parameters and the form of its payload
-abbrev pub formRules : List ℕ → List Rule
-formRules q =
-    rule 4 (plain (getD q 3 0)) 0x6982
-    ∷ rule 4 (eqb (getD q 2 0) 0 && eqb (getD q 3 0) 0) 0x6A86
-    ∷ rule 5 (wellFormed (payload q)) 0x6A86
+-- checks 4 and 5: its parameters, and whether its payload is well formed
+abbrev pub formRules : Bool → List ℕ → List Rule
+formRules formed q =
+    rule 4 (plain (getD q 3 0)) swNeedEncryption
+    ∷ rule 4 (eqb (getD q 2 0) 0 && eqb (getD q 3 0) 0) swInvalidParams
+    ∷ rule 5 formed swInvalidParams
     ∷ []
 
--- checks 6 to 9, of the payload
-abbrev pub entryRules : Row → Matched → Face → List ℕ → List Rule
-entryRules r m f p =
-    rule 6 (m .pin1) 0x6A86
-    ∷ rule 7 (not (r .needs .cid) || holds 0x01 p (f .fixed .cid)) 0x6A86
-    ∷ rule 8 (r .needs .asleep || eqb (f .flags .active) 1) 0x6985
-    ∷ rule 9 (allowed (r .needs) (f .wallet .status)) 0x6985
+-- checks 6 to 9, of the view v of the payload
+abbrev pub entryRules : Row → Matched → Face → View → List Rule
+entryRules r m f v =
+    rule 6 (m .pin1) swInvalidParams
+    ∷ rule 7 (not (r .needs .cid) || holds CID v (f .front .fixed .cid)) swInvalidParams
+    ∷ rule 8 (r .needs .asleep || eqb (f .front .flags .active) 1) swInvalidStatus
+    ∷ rule 9 (allowed (r .needs) (f .front .wallet .status)) swInvalidStatus
     ∷ []
 
 -- checks 10 to 12: PIN2, then CVC; the command's own fields; its own conditions
-abbrev pub ownRules : Row → Matched → Face → List ℕ → List Rule
-ownRules r m f p =
-    rule 10 (not (r .pin2 p) || m .pin2) 0x6A86
-    ∷ rule 10 (not (r .needs .cvc && eqb (f .flags .usecvc) 1) || holds 0x19 p (f .fixed .cvc)) 0x6A86
-    ∷ rule 11 (r .fields f p) 0x6A86
-    ∷ rule 12 (r .conditions m f p) 0x6985
+abbrev pub asksCvc : Row → Face → Bool
+asksCvc r f = r .needs .cvc && eqb (f .front .flags .usecvc) 1
+
+abbrev pub ownRules : Row → Matched → Face → View → List Rule
+ownRules r m f v =
+    rule 10 (not (r .pin2 v) || m .pin2) swInvalidParams
+    ∷ rule 10 (not (asksCvc r f) || holds CVC v (f .front .fixed .cvc)) swInvalidParams
+    ∷ rule 11 (r .fields f v) swInvalidParams
+    ∷ rule 12 (r .conditions m f v) swInvalidStatus
     ∷ []
 
-abbrev pub rules : Row → Matched → Face → List ℕ → List Rule
-rules r m f q = headRules q ++ (formRules q ++ (entryRules r m f (payload q) ++ ownRules r m f (payload q)))
+-- of a request q; v is the view of its payload
+abbrev pub rules : Row → Matched → Face → Bool → View → List ℕ → List Rule
+rules r m f formed v q = headRules q ++ (formRules formed q ++ (entryRules r m f v ++ ownRules r m f v))
 
 abbrev pub passed : List ℕ → Verdict
 passed q = Pass (command q)

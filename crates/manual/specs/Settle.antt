@@ -5,12 +5,15 @@ use mathlib.Core.Bool.{Bool, true, false, cond, _&&_}
 use lib.ListN.{length, drop}
 use lib.Dec.{leb, eqb}
 use Rattle.wire.specs.Wire.{be2}
-use Rattle.fields.specs.Fields.{holds, written, Tagged, fld}
+use Rattle.fields.specs.Fields.{View, viewOf, wellFormed, holds, written, Tagged, fld}
 use Rattle.card.specs.declared.Codes.{Codes}
 use Rattle.card.specs.declared.Face.{Face}
 use Rattle.card.specs.declared.Card.{Card}
+use Rattle.card.specs.Layout.{imageSize, imageRoom}
 use Rattle.card.specs.Image.{encode, decode}
 use Rattle.card.specs.Valid.{isCard}
+use Rattle.manual.specs.Words.{swProcessCompleted, swErrorProcessingCommand, questionsRoom, responseRoom, drawSize}
+use Rattle.manual.specs.Tags.{CID, PIN1, PIN2, NewPIN1, NewPIN2}
 use Rattle.manual.specs.declared.Command.{Command}
 use Rattle.manual.specs.Row.{Matched}
 use Rattle.manual.specs.declared.Verdict.{Verdict}
@@ -20,17 +23,46 @@ use Rattle.manual.specs.Request.{command, payload}
 use Rattle.manual.specs.Row.{Question, asked, shaped, Row, gateOf, rules, passed}
 use Rattle.manual.specs.Commands.{row}
 
--- how the codes of a payload compare with those of the card
-abbrev pub matched : Codes → List ℕ → Matched
-matched x p = record { pin1 = holds 0x10 p (x .pin1); pin2 = holds 0x11 p (x .pin2); new1 = holds 0x12 p (x .pin1); new2 = holds 0x13 p (x .pin2) }
+-- A CALL with all that is lent to it: ask reads neither the answers nor `out` and `next`, settle not the page for questions
+pub record Call : Type 0 where
+  pub request : List ℕ
+  pub draw : List ℕ
+  pub answers : List ℕ
+  pub page : List ℕ
+  pub out : List ℕ
+  pub next : List ℕ
 
--- checks 1 to 12
-unfoldable pub judged : Matched → Face → List ℕ → Verdict
-judged m f q = gateOf (rules (row (command q)) m f q) (passed q)
+-- of ask, and of settle
+abbrev pub askCall : List ℕ → List ℕ → List ℕ → Call
+askCall q d page = record { request = q; draw = d; answers = []; page = page; out = []; next = [] }
+
+abbrev pub settleCall : List ℕ → List ℕ → List ℕ → List ℕ → List ℕ → Call
+settleCall q d a out nxt = record { request = q; draw = d; answers = a; page = []; out = out; next = nxt }
+
+-- how the codes of a payload compare with those of the card
+abbrev pub matched : Codes → View → Matched
+matched x v =
+    record {
+      pin1 = holds PIN1 v (x .pin1);
+      pin2 = holds PIN2 v (x .pin2);
+      new1 = holds NewPIN1 v (x .pin1);
+      new2 = holds NewPIN2 v (x .pin2);
+    }
+
+-- what a request sends
+unfoldable pub sentIn : List ℕ → View
+sentIn q = viewOf (payload q)
+
+-- checks 1 to 12 of a request q, where its payload is found formed or not, and v is the view of it
+unfoldable pub judgedBy : Bool → View → Matched → Face → List ℕ → Verdict
+judgedBy formed v m f q = gateOf (rules (row (command q)) m f formed v q) (passed q)
+
+abbrev pub judged : Matched → Face → List ℕ → Verdict
+judged m f q = judgedBy (wellFormed (payload q)) (sentIn q) m f q
 
 -- the status word of a verdict
 abbrev pub wordOf : Verdict → ℕ
-wordOf (Pass k) = 0x9000
+wordOf (Pass k) = swProcessCompleted
 wordOf (Stop n w) = w
 
 -- SETTLE: what is said, the face after, and whether the command was carried out; the codes are not in it
@@ -50,42 +82,43 @@ abbrev pub refused : ℕ → Face → Said
 refused w f = record { number = 0; word = w; response = be2 w; face = f; executed = false }
 
 -- every response starts with CID
-abbrev pub fieldsOf : Row → Face → List ℕ → List ℕ → List ℕ → List Tagged
-fieldsOf r f p d a = fld 0x01 (f .fixed .cid) ∷ r .fieldsOut f p d a
+abbrev pub fieldsOf : Row → Face → View → List ℕ → List ℕ → List Tagged
+fieldsOf r f v d a = fld CID (f .front .fixed .cid) ∷ r .fieldsOut f v d a
 
-abbrev pub responseOf : Row → ℕ → Face → List ℕ → List ℕ → List ℕ → List ℕ
-responseOf r w f p d a = written (fieldsOf r f p d a) ++ be2 w
+abbrev pub responseOf : Row → ℕ → Face → View → List ℕ → List ℕ → List ℕ
+responseOf r w f v d a = written (fieldsOf r f v d a) ++ be2 w
 
-unfoldable pub done : Row → Matched → Face → List ℕ → List ℕ → List ℕ → Said
-done r m f p d a =
+unfoldable pub done : Row → Matched → Face → View → List ℕ → List ℕ → Said
+done r m f v d a =
     record {
       number = 0;
-      word = 0x9000 + r .more m;
-      response = responseOf r (0x9000 + r .more m) (r .next f p a) p d a;
-      face = r .next f p a;
+      word = swProcessCompleted + r .more m;
+      response = responseOf r (swProcessCompleted + r .more m) (r .next f v a) v d a;
+      face = r .next f v a;
       executed = true;
     }
 
 -- number 4, then check 13, then the command
-unfoldable pub answered : Row → Matched → Face → List ℕ → List ℕ → List ℕ → Said
-answered r m f p d a = cond (shaped (r .questions f p d) a) (cond (r .confirmed a) (done r m f p d a) (refused 0x6286 f)) (silent 4 f)
+unfoldable pub answered : Row → Matched → Face → View → List ℕ → List ℕ → Said
+answered r m f v d a =
+    cond (shaped (r .questions f v d) a) (cond (r .confirmed a) (done r m f v d a) (refused swErrorProcessingCommand f)) (silent 4 f)
 
 abbrev pub saidBy : Verdict → Matched → Face → List ℕ → List ℕ → List ℕ → Said
 saidBy (Stop n w) m f q d a = refused w f
-saidBy (Pass k) m f q d a = answered (row k) m f (payload q) d a
+saidBy (Pass k) m f q d a = answered (row k) m f (sentIn q) d a
 
 unfoldable pub said : Matched → Face → List ℕ → List ℕ → List ℕ → Said
 said m f q d a = saidBy (judged m f q) m f q d a
 
 -- the codes after
-abbrev pub recoded : Command → Bool → List ℕ → Codes → Codes
-recoded k executed p x = cond executed (row k .recode p x) x
+abbrev pub recoded : Command → Bool → View → Codes → Codes
+recoded k executed v x = cond executed (row k .recode v x) x
 
 abbrev pub cardAfter : Said → Codes → List ℕ → Card
-cardAfter s x q = record { face = s .face; codes = recoded (command q) (s .executed) (payload q) x }
+cardAfter s x q = record { face = s .face; codes = recoded (command q) (s .executed) (sentIn q) x }
 
 abbrev pub saidTo : Card → List ℕ → List ℕ → List ℕ → Said
-saidTo c q d a = said (matched (c .codes) (payload q)) (c .face) q d a
+saidTo c q d a = said (matched (c .codes) (sentIn q)) (c .face) q d a
 
 -- what a call returns, and what its buffers then hold
 pub record Settled : Type 0 where
@@ -108,7 +141,8 @@ abbrev pub over : List ℕ → List ℕ → List ℕ
 over v out = v ++ drop (length v) out
 
 abbrev pub wrote : Said → Card → List ℕ → List ℕ → Settled
-wrote s c out nxt = settledBy (outcome 0 (s .word) (length (s .response))) (over (s .response) out) (encode c ++ drop 2429 nxt)
+wrote s c out nxt =
+    settledBy (outcome 0 (s .word) (length (s .response))) (over (s .response) out) (encode c ++ drop imageSize nxt)
 
 unfoldable pub lent : Said → Card → List ℕ → List ℕ → Settled
 lent s c out nxt = cond (eqb (s .number) 0) (wrote s c out nxt) (untouched (s .number) out nxt)
@@ -118,16 +152,18 @@ settledOf c q d a out nxt = lent (saidTo c q d a) (cardAfter (saidTo c q d a) (c
 
 -- the buffers' least lengths
 unfoldable pub roomy : ℕ → ℕ → Bool
-roomy out nxt = leb 2048 out && leb 4096 nxt
+roomy out nxt = leb responseRoom out && leb imageRoom nxt
 
--- THE MEANING OF SETTLE
-unfoldable pub settled : List ℕ → List ℕ → List ℕ → List ℕ → List ℕ → List ℕ → Settled
-settled m q d a out nxt =
+-- THE MEANING OF SETTLE, of the card's image m
+unfoldable pub settled : List ℕ → Call → Settled
+settled m i =
     cond (isCard m)
-    (cond (roomy (length out) (length nxt))
-    (cond (eqb (length d) 32) (settledOf (decode m) q d a out nxt) (untouched 3 out nxt))
-    (untouched 2 out nxt))
-    (untouched 1 out nxt)
+    (cond (roomy (length (i .out)) (length (i .next)))
+    (cond (eqb (length (i .draw)) drawSize)
+    (settledOf (decode m) (i .request) (i .draw) (i .answers) (i .out) (i .next))
+    (untouched 3 (i .out) (i .next)))
+    (untouched 2 (i .out) (i .next)))
+    (untouched 1 (i .out) (i .next))
 
 -- ASK: what is returned, and what the buffer for questions then holds
 pub record Posed : Type 0 where
@@ -143,16 +179,21 @@ posed w v out = posedBy (outcome 0 w (length v)) (over v out)
 -- zero questions where checks 1 to 12 refuse, and their status word; otherwise 9000, with the command's questions or none
 abbrev pub questionsOf : Verdict → Face → List ℕ → List ℕ → List Question
 questionsOf (Stop n w) f q d = []
-questionsOf (Pass k) f q d = row k .questions f (payload q) d
+questionsOf (Pass k) f q d = row k .questions f (sentIn q) d
 
 unfoldable pub askedOf : Matched → Face → List ℕ → List ℕ → List ℕ → Posed
 askedOf m f q d out = posed (wordOf (judged m f q)) (asked (questionsOf (judged m f q) f q d)) out
 
+abbrev pub askedFrom : Card → List ℕ → List ℕ → List ℕ → Posed
+askedFrom c q d out = askedOf (matched (c .codes) (sentIn q)) (c .face) q d out
+
 -- THE MEANING OF ASK
-unfoldable pub askedFor : List ℕ → List ℕ → List ℕ → List ℕ → Posed
-askedFor m q d out =
+unfoldable pub askedFor : List ℕ → Call → Posed
+askedFor m i =
     cond (isCard m)
-    (cond (leb 2048 (length out))
-    (cond (eqb (length d) 32) (askedOf (matched (decode m .codes) (payload q)) (decode m .face) q d out) (posedBy (outcome 3 0 0) out))
-    (posedBy (outcome 2 0 0) out))
-    (posedBy (outcome 1 0 0) out)
+    (cond (leb questionsRoom (length (i .page)))
+    (cond (eqb (length (i .draw)) drawSize)
+    (askedFrom (decode m) (i .request) (i .draw) (i .page))
+    (posedBy (outcome 3 0 0) (i .page)))
+    (posedBy (outcome 2 0 0) (i .page)))
+    (posedBy (outcome 1 0 0) (i .page))

@@ -1,4 +1,5 @@
 // The manual's words as types: the commands, what each needs, the verdict of the checks, the result of a call. The meaning is in specs/.
+pub mod tag;
 
 pub enum Command {
     ReadCard,
@@ -59,24 +60,47 @@ pub struct Outcome {
     pub length: u32,
 }
 
-// The status words of 01.
-pub const SW_DONE: u16 = 0x9000;
+impl Outcome {
+    // The numbers of 01's table.
+    pub const NO_CARD: u8 = 1;
 
-pub const SW_LENGTH: u16 = 0x6700;
+    pub const NO_ROOM: u8 = 2;
 
-pub const SW_CLASS: u16 = 0x6E00;
+    pub const NO_DRAW: u8 = 3;
 
-pub const SW_INS: u16 = 0x6D00;
+    pub const NO_ANSWERS: u8 = 4;
 
-pub const SW_SESSION: u16 = 0x6982;
+    // The status words, by the manual's names.
+    pub const SW_PROCESS_COMPLETED: u16 = 0x9000;
 
-pub const SW_DATA: u16 = 0x6A86;
+    pub const SW_ERROR_PROCESSING_COMMAND: u16 = 0x6286;
 
-pub const SW_STATUS: u16 = 0x6985;
+    pub const SW_WRONG_LENGTH: u16 = 0x6700;
 
-pub const SW_UNCONFIRMED: u16 = 0x6286;
+    pub const SW_NEED_ENCRYPTION: u16 = 0x6982;
 
-// The room that a buffer for questions or for a response has at least.
-pub const ROOM: usize = 2048;
+    pub const SW_INVALID_STATUS: u16 = 0x6985;
 
-pub const DRAW: usize = 32;
+    pub const SW_INVALID_PARAMS: u16 = 0x6A86;
+
+    pub const SW_INS_NOT_SUPPORTED: u16 = 0x6D00;
+
+    pub const SW_CLA_NOT_SUPPORTED: u16 = 0x6E00;
+}
+
+// The room that the buffers for questions and for the response have at least.
+pub const QUESTIONS_ROOM: usize = 2048;
+
+pub const RESPONSE_ROOM: usize = 2048;
+
+pub const DRAW_SIZE: usize = 32;
+
+// A challenge, a salt.
+pub const SALT_SIZE: usize = 16;
+
+// A request, as a whole.
+pub const LEAST_REQUEST: usize = 6;
+
+pub const MOST_REQUEST: usize = 1024;
+
+pub const HASH_SIZE: usize = 32;

@@ -1,9 +1,2 @@
 pub mod Laws
 pub mod Unique
-pub mod Held
-pub mod Later
-pub mod Short
-pub mod Early
-pub mod First
-pub mod Whole
-pub mod Calls

@@ -1,8 +1,8 @@
 // A recording played byte by byte, whatever pieces it comes in: bytes are held until they are a whole sheet or a whole line. Room is
 // needed for one byte more than the longest line, for an image and for a line that is printed; a call without it does nothing.
 use recording::Play;
-use recording::SHEET_LINES;
 use recording::Turn;
+use tapline::LONGEST;
 use text::lines;
 ghost use mathlib.Core.Path.{_≡_};
 ghost use mathlib.Core.List.{[], _∷_};
@@ -11,10 +11,10 @@ ghost use lib.ListN.{length};
 ghost use Rattle.wire.specs.Wire.{fit, placed};
 ghost use Rattle.recording.specs.Step.{roomFor, wrote};
 ghost use Rattle.recording.specs.Step as Recording;
-ghost use Rattle.player.specs.Feed.{atFirst, playedHeld, isWhole, linesWith, leftBy, roomy, heldWith, taken, fed, isCut, atEnd, closed};
+ghost use Rattle.player.specs.Feed.{atFirst, after, playedHeld, linesWith, isWhole, leftBy, roomy, heldWith, taken, fed, isCut, atEnd, closed};
 
 // One byte more than a line may have.
-pub const TEXT_ROOM: usize = 8193;
+pub const TEXT_ROOM: usize = LONGEST + 1;
 
 // What lasts from byte to byte: the play, the lines of the sheet so far, and how many bytes are held.
 pub struct Player {
@@ -46,22 +46,23 @@ fn has_place(text: usize, img: usize, out: usize) -> bool
     wire::both(TEXT_ROOM <= text, recording::has_place(img, out))
 }
 
-fn is_whole(lines: u32, n: usize, b: u8) -> bool
-    ensures { λ r. ⌜ r ≡ isWhole lines n b ⌝ }
-{
-    let fed = wire::both(b == lines::LINE_FEED, SHEET_LINES - 1 <= lines);
-    wire::either(TEXT_ROOM <= n, fed)
-}
-
 // The lines of the sheet after a byte.
 fn lines_with(b: u8, lines: u32) -> u32
     ensures { λ r. ⌜ r ≡ linesWith b lines ⌝ }
 {
-    if wire::both(b == lines::LINE_FEED, lines < SHEET_LINES) {
+    if wire::both(b == lines::LINE_FEED, sheet::belongs(lines)) {
         lines + 1
     } else {
         lines
     }
+}
+
+fn is_whole(lines: u32, n: usize, b: u8) -> bool
+    ensures { λ r. ⌜ r ≡ isWhole lines n b ⌝ }
+{
+    let over = wire::unless(sheet::belongs(lines_with(b, lines)));
+    let fed = wire::both(b == lines::LINE_FEED, over);
+    wire::either(TEXT_ROOM <= n, fed)
 }
 
 fn quiet(player: Player) -> Fed
@@ -70,15 +71,15 @@ fn quiet(player: Player) -> Fed
     Fed { player, length: 0 }
 }
 
-// After a play nothing is held.
+// After a play nothing is held, and no more line belongs to the sheet.
 fn after(t: Turn) -> Fed
-    ensures { λ r. ⌜ r ≡ record { player = record { play = t .play; lines = 13; held = 0 }; length = t .length } ⌝ }
+    ensures { λ r. ⌜ r ≡ record { player = after (t .play); length = t .length } ⌝ }
 {
     let play = t.play;
     Fed {
         player: Player {
             play,
-            lines: SHEET_LINES,
+            lines: sheet::LINES,
             held: 0,
         },
         length: t.length,
@@ -88,10 +89,12 @@ fn after(t: Turn) -> Fed
 // What is held is the sheet, or a line.
 fn play_held(p: Player, text: &[u8], img: &mut [u8], out: &mut [u8]) -> Turn
     requires { ⌜ roomFor (length (now img)) (length (now out)) ≡ true ⌝ }
-    ensures { λ r. ⌜ Recording.leftBy r (now (img .exit)) (now (out .exit)) ≡ wrote (playedHeld p (now (img .entry)) (now (text .entry))) (now (out .entry)) ⌝ }
+    ensures { λ r.
+        ⌜ Recording.leftBy r (now (img .exit)) (now (out .exit))
+        ≡ wrote (playedHeld (p .play) (p .lines) (now (text .entry)) (now (img .entry))) (now (out .entry)) ⌝ }
 {
     let lines = p.lines;
-    if lines < SHEET_LINES {
+    if sheet::belongs(lines) {
         recording::begin(text, img, out)
     } else {
         recording::step(p.play, text, img, out)
@@ -108,7 +111,9 @@ fn hold(p: Player, b: u8, held: usize) -> Fed
 
 fn take(p: Player, b: u8, text: &mut [u8], img: &mut [u8], out: &mut [u8]) -> Fed
     requires { ⌜ roomFor (length (now img)) (length (now out)) ≡ true ⌝ }
-    ensures { λ r. ⌜ leftBy r (now (text .exit)) (now (img .exit)) (now (out .exit)) ≡ taken p b (fit (now (text .entry)) (p .held) (b ∷ [])) (placed (now (text .entry)) (p .held) (b ∷ [])) (now (img .entry)) (now (out .entry)) ⌝ }
+    ensures { λ r.
+        ⌜ leftBy r (now (text .exit)) (now (img .exit)) (now (out .exit))
+        ≡ taken p b (fit (now (text .entry)) (p .held) (b ∷ [])) (placed (now (text .entry)) (p .held) (b ∷ [])) (now (img .entry)) (now (out .entry)) ⌝ }
 {
     let n = wire::put8(text, p.held, b);
     if is_whole(p.lines, n, b) {
@@ -130,7 +135,7 @@ pub fn feed(p: Player, b: u8, text: &mut [u8], img: &mut [u8], out: &mut [u8]) -
 fn is_cut(lines: u32, held: usize) -> bool
     ensures { λ r. ⌜ r ≡ isCut lines held ⌝ }
 {
-    wire::either(lines < SHEET_LINES, 0 < held)
+    wire::either(sheet::belongs(lines), 0 < held)
 }
 
 fn end(p: Player, text: &[u8], img: &mut [u8], out: &mut [u8]) -> Turn

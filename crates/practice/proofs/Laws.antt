@@ -1,123 +1,183 @@
--- What a written response and a written image leave, and how they make what settle means. Assumes nothing.
+-- What a written response and a written image leave, how one walk reads a request, and how they make what ask and settle mean. Assumes nothing.
 use Prim.Native.Nat.{ℕ, _+_, _≤_}
 use native.Mathlib.Omega.{arith}
 use mathlib.Core.Path.{_≡_, refl, sym, ap, ap₂, _∙_}
 use mathlib.Core.List.{List, _++_}
 use mathlib.Core.Bool.{Bool, true, false, cond}
-use lib.ListN.{length, drop, length-append}
+use lib.ListN.{length, drop, replicate, length-append}
 use lib.Seq.{take-at}
 use lib.Dec.{leb}
 use borrow.Author.Tests.{leb-true, eq-eqb}
-use Rattle.wire.specs.Wire.{part, Wrote, be2}
-use Rattle.wire.proofs.Laws.{runs, then, front, both-true, part-plain}
+use Rattle.wire.specs.Wire.{part, Wrote, Wrotes, joined, be2}
+use Rattle.wire.proofs.Laws.{runs, all-run, then, front, both-true, part-plain}
 use Rattle.wire.proofs.Parts.{Bytes}
-use Rattle.fields.specs.Fields.{Told, Tagged, written}
-use Rattle.fields.proofs.Laws.{told-run}
-use Rattle.card.specs.declared.Codes.{Codes}
-use Rattle.card.specs.declared.Front.{Front}
+use Rattle.fields.specs.Fields.{View, viewOf, each, written, wellFormed}
+use Rattle.sent.specs.Sent.{places, viewBy, placesOf, Filled}
+use Rattle.sent.proofs.Laws.{same-view, fill-form}
 use Rattle.card.specs.declared.Card.{Card}
-use Rattle.card.specs.Values.{bare, front as frontOf}
+use Rattle.card.specs.Layout.{imageSize, imageRoom}
 use Rattle.card.specs.Image.{encode, decode}
 use Rattle.card.specs.Shape.{Shape}
-use Rattle.image.proofs.Shape.{length-encode}
-use Rattle.image.proofs.Round.{encode-decode, decode-encode, shape-decode}
+use Rattle.cards.proofs.Shape.{length-encode}
+use Rattle.cards.proofs.Round.{encode-decode, decode-encode, shape-decode}
 use Rattle.manual.specs.declared.Command.{Command}
 use Rattle.manual.specs.declared.Verdict.{Verdict}
 use Rattle.manual.specs.declared.Verdict.the-variants.{Pass, Stop}
-use Rattle.manual.specs.Request.{command, payload}
+use Rattle.manual.specs.Words.{swProcessCompleted, swErrorProcessingCommand, questionsRoom, responseRoom}
+use Rattle.manual.specs.Request.{lcOf, fits, command, payload, bodyIn}
+use Rattle.manual.specs.Row.{Matched, asked, eachAsked, shaped}
 use Rattle.manual.specs.Commands.{row}
-use Rattle.manual.specs.Row.{Matched, shaped}
-use Rattle.manual.specs.Settle.{Said, settledBy, outcome, refused, silent, done, answered, said, cardAfter, over, responseOf, lent, untouched, settledOf, roomy, matched, judged}
-use Rattle.gate.proofs.Laws.{command-of}
-use Rattle.manual.proofs.Shapes.{next-shape, code-shape}
-use Rattle.manual.proofs.Fronts.{judged-front, questions-front}
-use Rattle.changes.specs.Carried.{carriedCard, carriedImage}
-use Rattle.practice.specs.Carried.{answeredIn}
+use Rattle.manual.specs.Settle.{Said, settledBy, outcome, refused, silent, done, answered, said, cardAfter, over, fieldsOf, responseOf}
+use Rattle.manual.specs.Settle.{lent, untouched, settledOf, roomy, matched, judged, judgedBy, sentIn, wordOf, posed, posedBy, askedOf, askedFrom}
+use Rattle.facts.proofs.Facts.{small-decode, facts, asks, tells}
+use Rattle.request.proofs.Laws.{body-is, payload-short}
+use Rattle.gate.specs.Gate.{headOf, laterOf, judgedOf}
+use Rattle.gate.proofs.Laws.{at-head, past-head, heads, command-of, fields-hold}
+use Rattle.manual.specs.declared.Outcome.{Outcome}
+use Rattle.changes.specs.Carried.{carriedCard, carriedImage, keptImage}
+use Rattle.changes.proofs.Laws.{carried-shape}
+use Rattle.practice.specs.Carried.{Says, doneIn, answeredIn}
 
--- THE NEXT IMAGE. An image copied is the image of its card
-pub copied : (m nxt : List ℕ) {nxt′ : List ℕ} {r : ℕ} → length m ≡ 2429 → Bytes m → Wrote nxt 0 m nxt′ r → 4096 ≤ length nxt → nxt′ ≡ encode (decode m) ++ drop 2429 nxt
-copied m nxt l b w h =
+-- THE NEXT IMAGE. An image kept is the image of its card
+pub kept : (m nxt : List ℕ) {nxt′ : List ℕ} {r : ℕ} → length m ≡ imageSize → Bytes m → Wrote nxt 0 (keptImage m) nxt′ r → imageRoom ≤ length nxt
+    → nxt′ ≡ encode (decode m) ++ drop imageSize nxt
+unfolding keptImage
+kept m nxt {nxt′} {r} l b w h =
+    let v : Wrote nxt 0 m nxt′ r = rw (eq-eqb _ _ l) at w in
     let z : length m ≤ length nxt = omega arith in
-    front (runs w) z .0 ∙ ap₂ (λ x n. x ++ drop n nxt) (sym (encode-decode m l b)) l
+    front (runs v) z .0 ∙ ap₂ (λ x n. x ++ drop n nxt) (sym (encode-decode m l b)) l
 
 -- an image changed is that of the card after, and spells it
-module _ (k : Command) (m p a nxt : List ℕ) (l : length m ≡ 2429) where
+module _ (k : Command) (m : List ℕ) (v : View) (a nxt : List ℕ) (l : length m ≡ imageSize) where
   abbrev next : Card
-  next = carriedCard k (decode m) p a
+  next = carriedCard k (decode m) v a
 
-  shape : Shape next
-  shape = let s = shape-decode m in record { codes = code-shape k p (decode m .codes) (s .codes); face = next-shape k (decode m .face) p a (s .face) }
+  long : length (encode next) ≡ imageSize
+  long = length-encode next (carried-shape k m l v a)
 
-  pub changed : {nxt′ : List ℕ} {r : ℕ} → Wrote nxt 0 (carriedImage k m p a) nxt′ r → 4096 ≤ length nxt → nxt′ ≡ encode next ++ drop 2429 nxt
+  pub changed : {nxt′ : List ℕ} {r : ℕ} → Wrote nxt 0 (carriedImage k m v a) nxt′ r → imageRoom ≤ length nxt → nxt′ ≡ encode next ++ drop imageSize nxt
   unfolding carriedImage
   changed {nxt′} {r} w h =
-      let e = length-encode next shape in
+      let e = long in
       let z : length (encode next) ≤ length nxt = omega arith in
       let v : Wrote nxt 0 (encode next) nxt′ r = rw (eq-eqb _ _ l) at w in
       front (runs v) z .0 ∙ ap (λ n. encode next ++ drop n nxt) e
 
-  pub spelled : {nxt′ : List ℕ} (rest : List ℕ) → nxt′ ≡ encode next ++ rest → decode (part nxt′ 0 2429) ≡ next
+  pub spelled : {nxt′ : List ℕ} (rest : List ℕ) → nxt′ ≡ encode next ++ rest → decode (part nxt′ 0 imageSize) ≡ next
   spelled rest e =
-      let n = length-encode next shape in
-      let z : 0 + 2429 ≤ length (encode next ++ rest) = omega (arith, n, length-append (encode next) rest) in
-      ap (λ x. decode (part x 0 2429)) e ∙ ap decode (part-plain (encode next ++ rest) 0 2429 z ∙ take-at (encode next) rest 2429 n) ∙ decode-encode next shape
+      let n = long in
+      let z : 0 + imageSize ≤ length (encode next ++ rest) = omega (arith, n, length-append (encode next) rest) in
+      ap (λ x. decode (part x 0 imageSize)) e
+      ∙ ap decode (part-plain (encode next ++ rest) 0 imageSize z ∙ take-at (encode next) rest imageSize n)
+      ∙ decode-encode next (carried-shape k m l v a)
 
--- a response: its fields and its word
-pub responded : (fs : List Tagged) (w : ℕ) {d d′ : List ℕ} {r : ℕ} {d″ : List ℕ} {r″ : ℕ} → Told 1212 d 0 fs d′ r → Wrote d′ r (be2 w) d″ r″ → 2048 ≤ length d → ((d″ ≡ over (written fs ++ be2 w) d) × (r″ ≡ length (written fs ++ be2 w))) × (length (written fs ++ be2 w) ≤ 1214)
-responded fs w t x h =
-    let s = t .small in
-    let l : length (written fs ++ be2 w) ≤ 1214 = simp length-append (omega arith) in
-    (front (then (told-run t) (runs x)) (omega arith), l)
+-- A RESPONSE: its fields and its word
+pub responded : (k : Command) (m : List ℕ) (w : ℕ) (v : View) (e a : List ℕ) {d d′ : List ℕ} {r : ℕ} {d″ : List ℕ} {r″ : ℕ}
+    → Wrotes d 0 (each (fieldsOf (row k) (decode m .face) v e a)) d′ r → Wrote d′ r (be2 w) d″ r″ → responseRoom ≤ length d
+    → Says (responseOf (row k) w (decode m .face) v e a) d r″ d″ × (r″ ≤ responseRoom)
+unfolding written
+responded k m w v e a t x h =
+    let s = tells (facts k) (decode m .face) v e a (small-decode m) in
+    let l : length (responseOf (row k) w (decode m .face) v e a) ≤ responseRoom = simp length-append (omega arith) in
+    let f = front (then (all-run t) (runs x)) (omega arith) in
+    (record { bytes = f .0; size = f .1 }, omega (arith, f .1))
 
-pub refuses : (c : Card) (w : ℕ) (out nxt : List ℕ) {out′ nxt′ : List ℕ} → out′ ≡ be2 w ++ drop 2 out → nxt′ ≡ encode c ++ drop 2429 nxt → settledBy (outcome 0 w 2) out′ nxt′ ≡ lent (refused w (c .face)) c out nxt
+pub refuses : (c : Card) (w : ℕ) (out nxt : List ℕ) {r : Outcome} {out′ nxt′ : List ℕ} → r ≡ outcome 0 w 2 → out′ ≡ be2 w ++ drop 2 out
+    → nxt′ ≡ encode c ++ drop imageSize nxt → settledBy r out′ nxt′ ≡ lent (refused w (c .face)) c out nxt
 unfolding lent
-refuses c w out nxt e f = λ i. settledBy (outcome 0 w 2) (e i) (f i)
+refuses c w out nxt t e f = λ i. settledBy (t i) (e i) (f i)
 
 -- a command that is carried out
-module _ (k : Command) (m : Matched) (c : Card) (p d a out nxt : List ℕ) where
-  abbrev told : ℕ → Card → List ℕ
-  told n x = responseOf (row k) (0x9000 + n) (x .face) p d a
+module _ (k : Command) (c : Card) (v : View) (d a out nxt : List ℕ) where
+  abbrev response : ℕ → Card → List ℕ
+  response w x = responseOf (row k) w (x .face) v d a
 
   pub carries :
-      {x : Card} {n l : ℕ} {out′ nxt′ : List ℕ} → x ≡ carriedCard k c p a → n ≡ row k .more m → out′ ≡ over (told n x) out → l ≡ length (told n x)
-      → nxt′ ≡ encode (carriedCard k c p a) ++ drop 2429 nxt
-      → settledBy (outcome 0 (0x9000 + n) l) out′ nxt′ ≡ lent (done (row k) m (c .face) p d a) (carriedCard k c p a) out nxt
-  unfolding lent done
-  carries {x} {n} {l} {out′} {nxt′} ex en eo el ei =
-      (λ i. settledBy (outcome 0 (0x9000 + n) (el i)) (eo i) (ei i))
-      ∙ (λ i. settledBy (outcome 0 (0x9000 + en i) (length (told (en i) (ex i)))) (over (told (en i) (ex i)) out) (encode (carriedCard k c p a) ++ drop 2429 nxt))
+      {x : Card} {w l : ℕ} {r : Outcome} {out′ nxt′ : List ℕ} → r ≡ outcome 0 w l → x ≡ carriedCard k c v a
+      → w ≡ swProcessCompleted + row k .more (matched (c .codes) v) → Says (response w x) out l out′
+      → nxt′ ≡ encode (carriedCard k c v a) ++ drop imageSize nxt → settledBy r out′ nxt′ ≡ doneIn k c v d a out nxt
+  unfolding doneIn lent done
+  carries {x} {w} {l} {r} {out′} {nxt′} er ex ew s ei =
+      (λ i. settledBy (er i) (s .bytes i) (ei i))
+      ∙ (λ i. settledBy (outcome 0 w (s .size i)) (over (response w x) out) (encode (carriedCard k c v a) ++ drop imageSize nxt))
+      ∙ (λ i. settledBy (outcome 0 (ew i) (length (response (ew i) (ex i)))) (over (response (ew i) (ex i)) out) (encode (carriedCard k c v a) ++ drop imageSize nxt))
 
-pub rooms : (a b : ℕ) → roomy a b ≡ true → (2048 ≤ a) × (4096 ≤ b)
+pub rooms : (a b : ℕ) → roomy a b ≡ true → (responseRoom ≤ a) × (imageRoom ≤ b)
 unfolding roomy
-rooms a b e = let z = both-true (leb 2048 a) (leb 4096 b) e in (leb-true _ _ (z .0), leb-true _ _ (z .1))
+rooms a b e = let z = both-true (leb responseRoom a) (leb imageRoom b) e in (leb-true _ _ (z .0), leb-true _ _ (z .1))
 
--- WHAT IS READ OF AN IMAGE judges as its card does
-pub judged-read : {x : Codes} {f : Front} {v : Verdict} (m q : List ℕ) → v ≡ judged (matched x (payload q)) (bare f) q → x ≡ decode m .codes → f ≡ frontOf (decode m .face) → v ≡ judged (matched (decode m .codes) (payload q)) (decode m .face) q
-judged-read m q e x f =
-    e ∙ ap₂ (λ a b. judged (matched a (payload q)) (bare b) q) x f ∙ judged-front (matched (decode m .codes) (payload q)) (decode m .face) q
+-- ONE WALK of a request that passed checks 1 to 3 sees what it sends, and judges as the meaning does
+pub stopped : (c : Card) (q : List ℕ) {h : Verdict} {n a : ℕ} → h ≡ headOf q → h ≡ Stop n a → judged (matched (c .codes) (sentIn q)) (c .face) q ≡ Stop n a
+stopped c q eh d = at-head (wellFormed (payload q)) c (sentIn q) q eh d
 
--- and asks as it does
-pub asked-front : {f : Front} (k : Command) (m p d a : List ℕ) → f ≡ frontOf (decode m .face) → shaped (row k .questions (decode m .face) p d) a ≡ shaped (row k .questions (bare f) p d) a
-asked-front k m p d a e = sym (ap (λ z. shaped (row k .questions (bare z) p d) a) e ∙ ap (λ z. shaped z a) (questions-front k (decode m .face) p d))
+module _ {p l : List ℕ} {w : Bool} {h : Verdict} {k : Command} (q : List ℕ) (eh : h ≡ headOf q) (dh : h ≡ Pass k) (ep : p ≡ bodyIn q) (f : Filled p (replicate places 0) w l) where
+  has-payload : p ≡ payload q
+  has-payload = ep ∙ body-is q (heads q eh dh)
+
+  pub read-view : viewBy p l ≡ sentIn q
+  unfolding sentIn
+  read-view = ap (viewBy p) (f .places) ∙ same-view p (omega (arith, ap length has-payload, payload-short q)) ∙ ap viewOf has-payload
+
+  pub judged-read : (c : Card) {v : Verdict} → v ≡ laterOf k w c (viewBy p l) q → v ≡ judged (matched (c .codes) (sentIn q)) (c .face) q
+  judged-read c e =
+      let z = fill-form f ∙ ap wellFormed has-payload in
+      e ∙ sym (past-head w c (viewBy p l) q eh dh) ∙ (λ i. judgedBy (z i) (read-view i) (matched (c .codes) (read-view i)) (c .face) q)
+
+-- ASK BY ITS VERDICT
+module _ (c : Card) (q d out : List ℕ) where
+  abbrev m : Matched
+  m = matched (c .codes) (sentIn q)
+
+  pub asked-stop : {n w : ℕ} → judged m (c .face) q ≡ Stop n w → askedFrom c q d out ≡ posedBy (outcome 0 w 0) out
+  unfolding askedOf asked eachAsked joined
+  asked-stop e = rw e refl
+
+  module _ (k : Command) {j : Command} (ek : k ≡ command q) (e : judged m (c .face) q ≡ Pass j) where
+    pub same : j ≡ k
+    same = command-of (wellFormed (payload q)) (sentIn q) m (c .face) q e ∙ sym ek
+
+    pub asked-pass : askedFrom c q d out ≡ posed swProcessCompleted (asked (row k .questions (c .face) (sentIn q) d)) out
+    unfolding askedOf
+    asked-pass = rw e (ap (λ i. posed swProcessCompleted (asked (row i .questions (c .face) (sentIn q) d)) out) same)
+
+    pub sent-fields : row k .fields (c .face) (sentIn q) ≡ true
+    sent-fields = ap (λ i. row i .fields (c .face) (sentIn q)) (sym same) ∙ fields-hold (wellFormed (payload q)) (sentIn q) m (c .face) q e
+
+-- the questions at the front of their buffer
+pub posed-front : (k : Command) (m : List ℕ) (v : View) (d : List ℕ) {out out′ : List ℕ} {r : ℕ} → row k .fields (decode m .face) v ≡ true
+    → Wrotes out 0 (eachAsked (row k .questions (decode m .face) v d)) out′ r → questionsRoom ≤ length out
+    → Says (asked (row k .questions (decode m .face) v d)) out r out′ × (r ≤ questionsRoom)
+unfolding asked
+posed-front k m v d ok t h =
+    let s = asks (facts k) (decode m .face) v d (small-decode m) ok in
+    let f = front (all-run t) (omega arith) in
+    (record { bytes = f .0; size = f .1 }, omega (arith, f .1))
+
+pub poses : {v out out′ : List ℕ} {r : ℕ} {x : Outcome} (w : ℕ) → x ≡ outcome 0 w r → Says v out r out′ → posedBy x out′ ≡ posed w v out
+poses {v} {out} w e s = (λ i. posedBy (e i) (s .bytes i)) ∙ ap (λ n. posedBy (outcome 0 w n) (over v out)) (s .size)
 
 -- SETTLE BY ITS VERDICT
 module _ (c : Card) (q d a out nxt : List ℕ) where
-  abbrev m : Matched
-  m = matched (c .codes) (payload q)
+  abbrev codes : Matched
+  codes = matched (c .codes) (sentIn q)
 
-  pub settled-stop : {n w : ℕ} → judged m (c .face) q ≡ Stop n w → settledOf c q d a out nxt ≡ lent (refused w (c .face)) c out nxt
+  pub settled-stop : {n w : ℕ} → judged codes (c .face) q ≡ Stop n w → settledOf c q d a out nxt ≡ lent (refused w (c .face)) c out nxt
   unfolding settledOf said
   settled-stop e = rw e refl
 
   abbrev ways : Command → Bool → Bool → Said
-  ways k s t = cond s (cond t (done (row k) m (c .face) (payload q) d a) (refused 0x6286 (c .face))) (silent 4 (c .face))
+  ways k s t = cond s (cond t (done (row k) codes (c .face) (sentIn q) d a) (refused swErrorProcessingCommand (c .face))) (silent 4 (c .face))
 
-  by-ways : (k : Command) → k ≡ command q → (s t : Bool) → lent (ways k s t) (cardAfter (ways k s t) (c .codes) q) out nxt ≡ cond s (cond t (lent (done (row k) m (c .face) (payload q) d a) (carriedCard k c (payload q) a) out nxt) (lent (refused 0x6286 (c .face)) c out nxt)) (untouched 4 out nxt)
-  unfolding lent done
-  by-ways k e true true = ap (λ j. lent (ways k true true) (record { face = row k .next (c .face) (payload q) a; codes = row j .recode (payload q) (c .codes) }) out nxt) (sym e)
+  by-ways : (k : Command) → k ≡ command q → (s t : Bool) → lent (ways k s t) (cardAfter (ways k s t) (c .codes) q) out nxt
+      ≡ cond s (cond t (doneIn k c (sentIn q) d a out nxt) (lent (refused swErrorProcessingCommand (c .face)) c out nxt)) (untouched 4 out nxt)
+  unfolding doneIn lent done
+  by-ways k e true true =
+      ap (λ j. lent (ways k true true) (record { face = row k .next (c .face) (sentIn q) a; codes = row j .recode (sentIn q) (c .codes) }) out nxt) (sym e)
   by-ways k e true false = refl
   by-ways k e false t = refl
 
-  pub settled-pass : {k : Command} → judged m (c .face) q ≡ Pass k → settledOf c q d a out nxt ≡ answeredIn k m c (payload q) d a out nxt
+  pub settled-pass : (k : Command) {j : Command} → k ≡ command q → judged codes (c .face) q ≡ Pass j → settledOf c q d a out nxt ≡ answeredIn k c (sentIn q) d a out nxt
   unfolding settledOf said answered answeredIn
-  settled-pass {k} e = rw e (by-ways k (command-of m (c .face) q e) (shaped (row k .questions (c .face) (payload q) d) a) (row k .confirmed a))
+  settled-pass k {j} ek e =
+      let ej = command-of (wellFormed (payload q)) (sentIn q) codes (c .face) q e in
+      rw e (by-ways j ej (shaped (row j .questions (c .face) (sentIn q) d) a) (row j .confirmed a) ∙ ap (λ i. answeredIn i c (sentIn q) d a out nxt) (ej ∙ sym ek))

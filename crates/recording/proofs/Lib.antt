@@ -1,8 +1,2 @@
 pub mod Laws
-pub mod Steps
-pub mod Lines
-pub mod Bad
-pub mod Counted
-pub mod Theorems
-pub mod Told
 pub mod Unique

@@ -1,4 +1,3 @@
 pub mod Recording
 pub mod Play
 pub mod Step
-pub mod Facts

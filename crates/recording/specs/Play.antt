@@ -5,20 +5,27 @@ use mathlib.Core.Bool.{cond}
 use lib.ListN.{replicate}
 use lib.Dec.{eqb}
 use Rattle.wire.specs.Wire.{alike}
+use Rattle.card.specs.Layout.{imageRoom}
 use Rattle.card.specs.Image.{encode, decode}
-use Rattle.sheet.specs.Sheet.{firstBad, sheetCard}
-use Rattle.manual.specs.Settle.{Settled, settled}
-use Rattle.history.specs.Sums.{tap}
-use Rattle.history.specs.Demands.{response, image}
+use Rattle.sheet.specs.Sheet.{firstBad, sheetIn}
+use Rattle.personalise.specs.Personalise.{sheetCard}
+use Rattle.manual.specs.Words.{responseRoom}
+use Rattle.manual.specs.Settle.{Call, Settled, settleCall, settled}
+use Rattle.story.specs.Sums.{tap}
+use Rattle.story.specs.Buffers.{response, image}
 use Rattle.tapline.specs.Line.{Recorded}
 use Rattle.sums.specs.declared.Sums.{Sums}
 use Rattle.sums.specs.Counted.{noSums, counted, liveSigns}
 use Rattle.printing.specs.Printing.{toldAs, tapText, sumsText, badText}
-use Rattle.recording.specs.Recording.{Taps, sheetIn, tapsOf}
+use Rattle.recording.specs.Recording.{Taps, tapsOf}
 
--- WHAT SETTLE GIVES for a tap on the card with image m; the buffers are the play's own
+-- A TAP AS A CALL of settle: what was recorded, and the buffers that the play lends
+abbrev pub callOf : Recorded → Call
+callOf t = settleCall (t .request) (t .draw) (t .answers) (replicate responseRoom 0) (replicate imageRoom 0)
+
+-- WHAT SETTLE GIVES for it, on the card with image m
 abbrev pub settledFor : List ℕ → Recorded → Settled
-settledFor m t = settled m (t .request) (t .draw) (t .answers) (replicate 2048 0) (replicate 4096 0)
+settledFor m t = settled m (callOf t)
 
 abbrev pub told : Settled → List ℕ
 told x = toldAs (x .result .number) (response x)
@@ -49,7 +56,7 @@ abbrev pub textOf : Played → Recorded → List ℕ
 textOf p t = let v = told (settledFor (p .image) t) in tapText (suc (p .taps)) (alike (t .expected) v) v
 
 abbrev pub lastText : List ℕ → Sums → List ℕ
-lastText m s = sumsText (decode m .face .wallet .remaining) (decode m .face .wallet .signed) (liveSigns s) (s .hashes)
+lastText m s = sumsText (decode m .face .front .wallet .remaining) (decode m .face .front .wallet .signed) (liveSigns s) (s .hashes)
 
 -- THE TEXT that a play prints: a line for each tap, then the sums, or the bad line's number
 unfoldable pub tapsText : Played → List Recorded → List ℕ

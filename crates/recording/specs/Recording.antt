@@ -1,27 +1,21 @@
 -- A RECORDING, Ask 4, is text: a personalisation sheet, and after it one line for each tap. Every definition is total. Assumes nothing.
-use Prim.Native.Nat.{ℕ, zero, suc}
+use Prim.Native.Nat.{ℕ, zero, suc, _/_}
 use mathlib.Core.List.{List, [], _∷_}
 use mathlib.Core.Bool.{cond}
-use lib.ListN.{take, drop}
-use lib.Dec.{eqb}
-use Rattle.wire.specs.Wire.{joined}
-use Rattle.tapline.specs.Line.{isTapLine, Recorded, recorded}
+use Rattle.sheet.specs.Sheet.{afterSheet, lineAfter}
+use Rattle.tapline.specs.Line.{longest, isTapLine, Recorded, recorded}
 
--- THE LINES of a text, each with its line feed; the last may have none
-unfoldable pub before : ℕ → List (List ℕ) → List (List ℕ)
-before b [] = (b ∷ []) ∷ []
-before b (l ∷ ls) = (b ∷ l) ∷ ls
+-- each line after the sheet is a tap
+abbrev pub tapsIn : List ℕ → List (List ℕ)
+tapsIn s = afterSheet s
 
-unfoldable pub linesOf : List ℕ → List (List ℕ)
-linesOf [] = []
-linesOf (b ∷ s) = cond (eqb b 10) ((b ∷ []) ∷ linesOf s) (before b (linesOf s))
+-- the most taps of a recording
+abbrev pub mostTaps : ℕ
+mostTaps = 10000
 
--- the sheet is the first thirteen, and each line after them is a tap
-unfoldable pub sheetIn : List ℕ → List ℕ
-sheetIn s = joined (take 13 (linesOf s))
-
-unfoldable pub tapsIn : List ℕ → List (List ℕ)
-tapsIn s = drop 13 (linesOf s)
+-- room for what a field spells, of the longest line
+abbrev pub fieldRoom : ℕ
+fieldRoom = longest / 2
 
 -- THE TAPS of lines, up to the first that is none or is one too many, and the number of that line in the file; 0 where there is no such line
 pub record Taps : Type 0 where
@@ -41,4 +35,4 @@ tapsFrom zero n (l ∷ ls) = noTaps n
 tapsFrom (suc most) n (l ∷ ls) = cond (isTapLine l) (tapThen (recorded l) (tapsFrom most (suc n) ls)) (noTaps n)
 
 unfoldable pub tapsOf : List ℕ → Taps
-tapsOf s = tapsFrom 10000 14 (tapsIn s)
+tapsOf s = tapsFrom mostTaps (lineAfter 0) (tapsIn s)

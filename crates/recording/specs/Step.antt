@@ -1,21 +1,24 @@
 -- THE PLAY A LINE AT A TIME: what is kept between two lines, and what one more line makes of it and prints. Assumes nothing.
-use Prim.Native.Nat.{ℕ, _+_}
+use Prim.Native.Nat.{ℕ, _+_, _*_}
 use mathlib.Core.Path.{_≡_}
 use mathlib.Core.List.{List, [], _∷_, _++_}
 use mathlib.Core.Bool.{Bool, true, false, cond, _&&_}
 use lib.ListN.{length, take, replicate}
 use lib.Dec.{leb, ltb, eqb}
+use Rattle.card.specs.Layout.{imageSize, imageRoom}
 use Rattle.card.specs.Image.{encode}
-use Rattle.sheet.specs.Sheet.{firstBad, sheetCard}
+use Rattle.sheet.specs.Sheet.{firstBad, sheetIn, lineAfter}
+use Rattle.personalise.specs.Personalise.{sheetCard}
 use Rattle.text.specs.Text.{unhex}
 use Rattle.manual.specs.declared.Outcome.{Outcome}
-use Rattle.manual.specs.Settle.{Settled, settled, over}
+use Rattle.manual.specs.Words.{responseRoom}
+use Rattle.manual.specs.Settle.{Settled, settleCall, settled, over}
 use Rattle.recording.specs.declared.Play.{Play}
 use Rattle.recording.specs.declared.Turn.{Turn}
 use Rattle.tapline.specs.Line.{Recorded, drawIn, answersIn, isTapLine, recorded}
 use Rattle.sums.specs.Counted.{noSums}
 use Rattle.printing.specs.Printing.{badText}
-use Rattle.recording.specs.Recording.{sheetIn, tapsIn}
+use Rattle.recording.specs.Recording.{tapsIn, mostTaps}
 use Rattle.recording.specs.Play.{Played, afterTap, textOf, lastText}
 
 -- AFTER A LINE: what is kept, the card's image, and what is printed
@@ -33,7 +36,7 @@ played y m = record { taps = y .taps; sums = y .sums; image = m }
 abbrev pub endedAt : Play → Play
 endedAt y = record { taps = y .taps; sums = y .sums; ended = true }
 
--- a line that ends the play; the line after n taps is line 14 + n
+-- a line that ends the play, and its number
 abbrev pub stopped : Play → List ℕ → ℕ → Stepped
 stopped y m n = record { play = endedAt y; image = m; text = badText n }
 
@@ -45,16 +48,20 @@ nothing y m = record { play = y; image = m; text = [] }
 
 -- what settle gives for a request and the line that it stands in; out is the buffer for the response
 abbrev pub settledIn : List ℕ → List ℕ → List ℕ → List ℕ → Settled
-settledIn m q l out = settled m q (unhex (drawIn l)) (unhex (answersIn l)) out (replicate 4096 0)
+settledIn m q l out = settled m (settleCall q (unhex (drawIn l)) (unhex (answersIn l)) out (replicate imageRoom 0))
 
 -- the image after it
 abbrev pub renewed : ℕ → List ℕ → List ℕ → List ℕ
-renewed number nxt m = cond (eqb number 0) (take 2429 nxt) m
+renewed number nxt m = cond (eqb number 0) (take imageSize nxt) m
 
--- ONE MORE LINE: nothing once the play has ended; a line that is no tap, or is one too many, ends it
+-- a line that is a tap, and not one too many after so many
+abbrev pub isNext : ℕ → List ℕ → Bool
+isNext taps s = ltb taps mostTaps && isTapLine s
+
+-- ONE MORE LINE: nothing once the play has ended; a line that is not the next tap ends it
 unfoldable pub stepped : Play → List ℕ → List ℕ → Stepped
 stepped y m s =
-    cond (y .ended) (nothing y m) (cond (ltb (y .taps) 10000 && isTapLine s) (tapped (played y m) (recorded s)) (stopped y m (y .taps + 14)))
+    cond (y .ended) (nothing y m) (cond (isNext (y .taps) s) (tapped (played y m) (recorded s)) (stopped y m (lineAfter (y .taps))))
 
 -- THE SHEET: a fresh card, or the number of its first bad line
 abbrev pub start : Play
@@ -86,14 +93,18 @@ pub record Says (v out : List ℕ) (r : ℕ) (out′ : List ℕ) : Type 0 where
   pub size : r ≡ length v
   pub bytes : out′ ≡ over v out
 
--- WHAT A CALL LEAVES: what it returns, the image, and the buffer that it prints into. Without a place for an image of 2,429 bytes and for a line it does nothing
+-- WHAT A CALL LEAVES: what it returns, the image, and the buffer that it prints into. Without a place for an image and for a line it does nothing
 pub record Left : Type 0 where
   pub result : Turn
   pub image : List ℕ
   pub out : List ℕ
 
+-- room for any line that is printed: a response in hex, and what stands around it
+abbrev pub lineRoom : ℕ
+lineRoom = 2 * responseRoom + 256
+
 unfoldable pub roomFor : ℕ → ℕ → Bool
-roomFor image out = eqb image 2429 && leb 4352 out
+roomFor image out = eqb image imageSize && leb lineRoom out
 
 abbrev pub leftBy : Turn → List ℕ → List ℕ → Left
 leftBy r m out = record { result = r; image = m; out = out }

@@ -1,5 +1,6 @@
 // A recording, Ask 4: a personalisation sheet, then a line for each tap. It is played a line at a time; what lasts from line to line
 // is a small struct and the card's image. A call that is lent an image of another length, or no room for a line, does nothing.
+use card::layout;
 use manual::Outcome;
 use sums::Sums;
 use text::lines;
@@ -7,22 +8,26 @@ ghost use mathlib.Core.Path.{_≡_};
 ghost use Prim.Native.Nat.{_≤_, _<_};
 ghost use mathlib.Core.Bool.{false, not, _&&_};
 ghost use lib.ListN.{length};
-ghost use lib.Dec.{ltb};
 ghost use Rattle.wire.specs.Wire.{alike};
+ghost use Rattle.card.specs.Layout.{imageSize, imageRoom};
+ghost use Rattle.manual.specs.Words.{responseRoom};
 ghost use Rattle.manual.specs.Settle.{over};
 ghost use Rattle.text.specs.Text.{unhex};
-ghost use Rattle.tapline.specs.Line.{requestIn, isTapLine, recordedIn};
+ghost use Rattle.tapline.specs.Line.{requestIn, longest, recordedIn};
 ghost use Rattle.printing.specs.Printing.{toldAs, tapText, badText};
+ghost use Rattle.recording.specs.Recording.{mostTaps};
 ghost use Rattle.recording.specs.Play.{lastText};
-ghost use Rattle.recording.specs.Step.{start, endedAt, played, tapped, stepped, started, finished, settledIn, renewed, Gave, Says, roomFor, leftBy, wrote, leaves};
+ghost use Rattle.recording.specs.Step.{start, endedAt, played, tapped, isNext, stepped, started, finished};
+ghost use Rattle.recording.specs.Step.{settledIn, renewed, Gave, Says, lineRoom, roomFor, leftBy, wrote, leaves};
 
-// The lines of a sheet, and the most taps of a recording.
-pub const SHEET_LINES: u32 = 13;
-
+// The most taps of a recording.
 const MOST_TAPS: u16 = 10000;
 
-// Room for any line that is printed.
-pub const LINE_ROOM: usize = 4352;
+// Room for any line that is printed: a response in hex, and what stands around it.
+pub const LINE_ROOM: usize = 2 * manual::RESPONSE_ROOM + 256;
+
+// Room for what a field spells, of the longest line.
+const FIELD_ROOM: usize = tapline::LONGEST / 2;
 
 // What lasts from line to line: the taps so far and their sums, and whether the play has ended.
 pub struct Play {
@@ -41,7 +46,7 @@ pub struct Turn {
 pub fn has_place(img: usize, out: usize) -> bool
     ensures { λ r. ⌜ r ≡ roomFor img out ⌝ }
 {
-    wire::both(img == card::IMAGE_SIZE, LINE_ROOM <= out)
+    wire::both(img == layout::IMAGE_SIZE, LINE_ROOM <= out)
 }
 
 fn goes_on(ended: bool, img: usize, out: usize) -> bool
@@ -81,7 +86,7 @@ fn end(play: Play) -> Play
 
 // A bad line ends the play.
 fn stop(play: Play, bad: u32, out: &mut [u8]) -> Turn
-    requires { ⌜ 4352 ≤ length (now out) ⌝ }
+    requires { ⌜ lineRoom ≤ length (now out) ⌝ }
     ensures { λ r. ⌜ (r ≡ record { play = endedAt play; length = length (badText bad) }) × (now (out .exit) ≡ over (badText bad) (now (out .entry))) ⌝ }
 {
     let length = printing::put_bad(out, bad);
@@ -93,24 +98,26 @@ fn stop(play: Play, bad: u32, out: &mut [u8]) -> Turn
 
 // The card goes on with the next image, or, after a refusal by number, as it was.
 fn renew(number: u8, next: &[u8], img: &mut [u8])
-    requires { ⌜ (length (now img) ≡ 2429) × (length (now next) ≡ 4096) ⌝ }
+    requires { ⌜ (length (now img) ≡ imageSize) × (length (now next) ≡ imageRoom) ⌝ }
     ensures { λ _. ⌜ now (img .exit) ≡ renewed number (now (next .entry)) (now (img .entry)) ⌝ }
 {
     if number == 0 {
-        wire::put_bytes(img, 0, wire::part(next, 0, card::IMAGE_SIZE));
+        wire::put_bytes(img, 0, wire::part(next, 0, layout::IMAGE_SIZE));
     }
 }
 
 // Settles a request with the draw and the answers of its line, and renews the image.
 fn settle(request: &[u8], l: &[u8], img: &mut [u8], response: &mut [u8]) -> Outcome
-    requires { ⌜ (length (now l) ≤ 8192) × (length (now img) ≡ 2429) ⌝ }
-    ensures { λ r. ⌜ Gave (settledIn (now (img .entry)) (now (request .entry)) (now (l .entry)) (now (response .entry))) (now (img .entry)) r (now (response .exit)) (now (img .exit)) ⌝ }
+    requires { ⌜ (length (now l) ≤ longest) × (length (now img) ≡ imageSize) ⌝ }
+    ensures { λ r.
+        ⌜ Gave (settledIn (now (img .entry)) (now (request .entry)) (now (l .entry)) (now (response .entry))) (now (img .entry))
+        r (now (response .exit)) (now (img .exit)) ⌝ }
 {
-    let mut draw = [0u8; 4096];
+    let mut draw = [0u8; FIELD_ROOM];
     let d = text::unhex(tapline::draw(l), &mut draw, 0);
-    let mut answers = [0u8; 4096];
+    let mut answers = [0u8; FIELD_ROOM];
     let a = text::unhex(tapline::answers(l), &mut answers, 0);
-    let mut next = [0u8; 4096];
+    let mut next = [0u8; layout::IMAGE_ROOM];
     let o = practice::settle(
         img,
         request,
@@ -125,8 +132,10 @@ fn settle(request: &[u8], l: &[u8], img: &mut [u8], response: &mut [u8]) -> Outc
 
 // What is printed of a tap.
 fn print_tap(n: u32, number: u8, response: &[u8], expected: &[u8], out: &mut [u8]) -> usize
-    requires { ⌜ (length (now response) ≤ 2048) × (4352 ≤ length (now out)) ⌝ }
-    ensures { λ r. ⌜ Says (tapText n (alike (now (expected .entry)) (toldAs number (now (response .entry)))) (toldAs number (now (response .entry)))) (now (out .entry)) r (now (out .exit)) ⌝ }
+    requires { ⌜ (length (now response) ≤ responseRoom) × (lineRoom ≤ length (now out)) ⌝ }
+    ensures { λ r.
+        ⌜ Says (tapText n (alike (now (expected .entry)) (toldAs number (now (response .entry)))) (toldAs number (now (response .entry))))
+        (now (out .entry)) r (now (out .exit)) ⌝ }
 {
     let mut text = [0u8; LINE_ROOM];
     let t = printing::put_told(&mut text, number, response);
@@ -136,10 +145,13 @@ fn print_tap(n: u32, number: u8, response: &[u8], expected: &[u8], out: &mut [u8
 
 // A tap of this request, whose line is l.
 fn tap_with(play: Play, request: &[u8], l: &[u8], img: &mut [u8], out: &mut [u8]) -> Turn
-    requires { ⌜ (play .taps < 10000) × (now request ≡ unhex (requestIn (now l))) × (length (now l) ≤ 8192) × (length (now img) ≡ 2429) × (4352 ≤ length (now out)) ⌝ }
-    ensures { λ r. ⌜ leftBy r (now (img .exit)) (now (out .exit)) ≡ wrote (tapped (played play (now (img .entry))) (recordedIn (now (l .entry)))) (now (out .entry)) ⌝ }
+    requires { ⌜ (play .taps < mostTaps) × (now request ≡ unhex (requestIn (now l))) × (length (now l) ≤ longest) × (length (now img) ≡ imageSize)
+        × (lineRoom ≤ length (now out)) ⌝ }
+    ensures { λ r.
+        ⌜ leftBy r (now (img .exit)) (now (out .exit))
+        ≡ wrote (tapped (played play (now (img .entry))) (recordedIn (now (l .entry)))) (now (out .entry)) ⌝ }
 {
-    let mut response = [0u8; 2048];
+    let mut response = [0u8; manual::RESPONSE_ROOM];
     let o = settle(request, l, img, &mut response);
     let said = wire::part(&response, 0, o.length as usize);
     let taps = play.taps + 1;
@@ -155,26 +167,28 @@ fn tap_with(play: Play, request: &[u8], l: &[u8], img: &mut [u8], out: &mut [u8]
 }
 
 fn tap(play: Play, l: &[u8], img: &mut [u8], out: &mut [u8]) -> Turn
-    requires { ⌜ (play .taps < 10000) × (length (now l) ≤ 8192) × (length (now img) ≡ 2429) × (4352 ≤ length (now out)) ⌝ }
-    ensures { λ r. ⌜ leftBy r (now (img .exit)) (now (out .exit)) ≡ wrote (tapped (played play (now (img .entry))) (recordedIn (now (l .entry)))) (now (out .entry)) ⌝ }
+    requires { ⌜ (play .taps < mostTaps) × (length (now l) ≤ longest) × (length (now img) ≡ imageSize) × (lineRoom ≤ length (now out)) ⌝ }
+    ensures { λ r.
+        ⌜ leftBy r (now (img .exit)) (now (out .exit))
+        ≡ wrote (tapped (played play (now (img .entry))) (recordedIn (now (l .entry)))) (now (out .entry)) ⌝ }
 {
-    let mut request = [0u8; 4096];
+    let mut request = [0u8; FIELD_ROOM];
     let n = text::unhex(tapline::request(l), &mut request, 0);
     tap_with(play, wire::part(&request, 0, n), l, img, out)
 }
 
 fn is_next(taps: u16, line: &[u8]) -> bool
-    ensures { λ r. ⌜ r ≡ (ltb taps 10000 && isTapLine (now (line .entry))) ⌝ }
+    ensures { λ r. ⌜ r ≡ isNext taps (now (line .entry)) ⌝ }
 {
     wire::both(taps < MOST_TAPS, tapline::is_tap_line(line))
 }
 
 fn fresh_card(sheet: &[u8], img: &mut [u8], out: &mut [u8]) -> Turn
-    requires { ⌜ (length (now img) ≡ 2429) × (4352 ≤ length (now out)) ⌝ }
+    requires { ⌜ (length (now img) ≡ imageSize) × (lineRoom ≤ length (now out)) ⌝ }
     ensures { λ r. ⌜ leftBy r (now (img .exit)) (now (out .exit)) ≡ wrote (started (now (sheet .entry)) (now (img .entry))) (now (out .entry)) ⌝ }
 {
-    let mut fresh = [0u8; 4096];
-    let bad = sheet::personalise(sheet, &mut fresh);
+    let mut fresh = [0u8; layout::IMAGE_ROOM];
+    let bad = personalise::personalise(sheet, &mut fresh);
     if bad == 0 {
         renew(0, &fresh, img);
         return quiet(new_play());
@@ -182,9 +196,11 @@ fn fresh_card(sheet: &[u8], img: &mut [u8], out: &mut [u8]) -> Turn
     stop(new_play(), bad, out)
 }
 
-// The sheet, all thirteen lines: a fresh card, or the number of its first bad line.
+// The whole sheet: a fresh card, or the number of its first bad line.
 pub fn begin(sheet: &[u8], img: &mut [u8], out: &mut [u8]) -> Turn
-    ensures { λ r. ⌜ leftBy r (now (img .exit)) (now (out .exit)) ≡ leaves (endedAt start) (now (img .entry)) (now (out .entry)) (started (now (sheet .entry)) (now (img .entry))) ⌝ }
+    ensures { λ r.
+        ⌜ leftBy r (now (img .exit)) (now (out .exit))
+        ≡ leaves (endedAt start) (now (img .entry)) (now (out .entry)) (started (now (sheet .entry)) (now (img .entry))) ⌝ }
 {
     if has_place(img.len(), out.len()) {
         return fresh_card(sheet, img, out);
@@ -193,18 +209,20 @@ pub fn begin(sheet: &[u8], img: &mut [u8], out: &mut [u8]) -> Turn
 }
 
 fn play_line(play: Play, line: &[u8], img: &mut [u8], out: &mut [u8]) -> Turn
-    requires { ⌜ (play .ended ≡ false) × (length (now img) ≡ 2429) × (4352 ≤ length (now out)) ⌝ }
+    requires { ⌜ (play .ended ≡ false) × (length (now img) ≡ imageSize) × (lineRoom ≤ length (now out)) ⌝ }
     ensures { λ r. ⌜ leftBy r (now (img .exit)) (now (out .exit)) ≡ wrote (stepped play (now (img .entry)) (now (line .entry))) (now (out .entry)) ⌝ }
 {
     if is_next(play.taps, line) {
         return tap(play, lines::head_to(line, lines::LINE_FEED), img, out);
     }
-    stop(play, play.taps as u32 + SHEET_LINES + 1, out)
+    stop(play, sheet::line_after(play.taps), out)
 }
 
 // One more line, with its line feed.
 pub fn step(play: Play, line: &[u8], img: &mut [u8], out: &mut [u8]) -> Turn
-    ensures { λ r. ⌜ leftBy r (now (img .exit)) (now (out .exit)) ≡ leaves play (now (img .entry)) (now (out .entry)) (stepped play (now (img .entry)) (now (line .entry))) ⌝ }
+    ensures { λ r.
+        ⌜ leftBy r (now (img .exit)) (now (out .exit))
+        ≡ leaves play (now (img .entry)) (now (out .entry)) (stepped play (now (img .entry)) (now (line .entry))) ⌝ }
 {
     if goes_on(play.ended, img.len(), out.len()) {
         return play_line(play, line, img, out);
@@ -213,7 +231,7 @@ pub fn step(play: Play, line: &[u8], img: &mut [u8], out: &mut [u8]) -> Turn
 }
 
 fn print_sums(s: Sums, img: &[u8], out: &mut [u8]) -> usize
-    requires { ⌜ 4352 ≤ length (now out) ⌝ }
+    requires { ⌜ lineRoom ≤ length (now out) ⌝ }
     ensures { λ r. ⌜ Says (lastText (now (img .entry)) s) (now (out .entry)) r (now (out .exit)) ⌝ }
 {
     let wallet = image::wallet(img);
@@ -227,7 +245,7 @@ fn print_sums(s: Sums, img: &[u8], out: &mut [u8]) -> usize
 }
 
 fn close(play: Play, img: &[u8], out: &mut [u8]) -> Turn
-    requires { ⌜ (play .ended ≡ false) × (4352 ≤ length (now out)) ⌝ }
+    requires { ⌜ (play .ended ≡ false) × (lineRoom ≤ length (now out)) ⌝ }
     ensures { λ r. ⌜ leftBy r (now (img .entry)) (now (out .exit)) ≡ wrote (finished play (now (img .entry))) (now (out .entry)) ⌝ }
 {
     let length = print_sums(play.sums, img, out);

@@ -1,26 +1,25 @@
 // What a request says: where its payload stands, its command, and the few values that several columns read.
-use fields::Found;
 use manual::Command;
 use manual::Ins;
 use manual::Lc;
 use manual::Signing;
+use manual::tag;
+use sent::Places;
 ghost use mathlib.Core.Path.{_≡_};
-ghost use mathlib.Core.Bool.{cond};
 ghost use lib.ListN.{getD};
-ghost use Rattle.fields.specs.Fields.{has};
-ghost use Rattle.manual.specs.Request.{lcOf, insOf, payload};
+ghost use Rattle.sent.specs.Sent.{viewBy};
+ghost use Rattle.manual.specs.Request.{lcOf, insOf, payload, bodyIn};
 ghost use Rattle.manual.specs.Wallet.{signing};
-ghost use Rattle.manual.specs.declared.Signing.the-variants.{New, Again};
 ghost use Rattle.manual.specs.Storage.{sentCounter};
 
 // Where the payload begins: after an Lc of one byte or of three, and the request ends with it.
 pub fn lc_of(q: &[u8]) -> Lc
     ensures { λ r. ⌜ r ≡ lcOf (now (q .entry)) ⌝ }
 {
-    if q.len() < 6 {
+    if q.len() < manual::LEAST_REQUEST {
         return Lc::Wrong;
     }
-    if 1024 < q.len() {
+    if manual::MOST_REQUEST < q.len() {
         return Lc::Wrong;
     }
     let n = q[4] as usize;
@@ -40,14 +39,24 @@ pub fn lc_of(q: &[u8]) -> Lc
     Lc::Wrong
 }
 
-// The payload, as a part of the request.
+// The payload, as a part of the request; nothing where Lc is wrong.
 pub fn payload(q: &[u8]) -> &[u8]
     ensures { λ r. ⌜ now r ≡ payload (now (q .entry)) ⌝ }
 {
     let Lc::Body(b) = lc_of(q) else {
-        return wire::rest(q, 0);
+        return wire::part(q, 0, 0);
     };
     wire::rest(q, b)
+}
+
+// The payload of a request that check 1 lets through, without a second look at its length.
+pub fn body(q: &[u8]) -> &[u8]
+    ensures { λ r. ⌜ now r ≡ bodyIn (now (q .entry)) ⌝ }
+{
+    if wire::get8(q, 4) == 0 {
+        return wire::rest(q, 7);
+    }
+    wire::rest(q, 5)
 }
 
 fn ins_of(ins: u8) -> Ins
@@ -77,34 +86,22 @@ pub fn command(q: &[u8]) -> Ins
     ins_of(wire::get8(q, 1))
 }
 
-// What a SIGN asks for.
-pub fn signing(p: &[u8]) -> Signing
-    ensures { λ r. ⌜ r ≡ signing (now (p .entry)) ⌝ }
+// What a SIGN asks for: new signatures where either field is there.
+pub fn signing(p: &[u8], places: &Places) -> Signing
+    ensures { λ r. ⌜ r ≡ signing (viewBy (now (p .entry)) (now (places .entry))) ⌝ }
 {
-    let Found::At {
-        start: _,
-        len,
-        next: _,
-    } = fields::find_from(p, 0, 0x50)
-    else {
-        return without_hashes(p);
-    };
-    Signing::New(len)
-}
-
-// No hash array: of no bytes where there is a hash size.
-fn without_hashes(p: &[u8]) -> Signing
-    ensures { λ r. ⌜ r ≡ cond (has 0x51 (now (p .entry))) (New 0) Again ⌝ }
-{
-    if fields::has(p, 0x51) {
-        return Signing::New(0);
+    let hashes = sent::value(p, places, tag::TRANSACTION_HASH);
+    let array = sent::has(p, places, tag::TRANSACTION_HASH);
+    let sized = sent::has(p, places, tag::TRANSACTION_HASH_SIZE);
+    if wire::either(array, sized) {
+        return Signing::New(hashes.len());
     }
     Signing::Again
 }
 
-// The counter (35) that a note is sent with.
-pub fn sent_counter(p: &[u8]) -> u32
-    ensures { λ r. ⌜ r ≡ sentCounter (now (p .entry)) ⌝ }
+// The counter that a note is sent with.
+pub fn sent_counter(p: &[u8], places: &Places) -> u32
+    ensures { λ r. ⌜ r ≡ sentCounter (viewBy (now (p .entry)) (now (places .entry))) ⌝ }
 {
-    wire::get32(fields::value(p, 0x35), 0)
+    wire::get32(sent::value(p, places, tag::ISSUER_DATA_COUNTER), 0)
 }

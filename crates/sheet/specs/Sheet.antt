@@ -1,21 +1,14 @@
--- The personalisation sheet, 01 "The personalisation sheet": its lines, the first bad one, and the card that it describes. Every definition is total.
--- Assumes nothing.
-use Prim.Native.Nat.{ℕ, zero, suc}
+-- The personalisation sheet, 01 "The personalisation sheet": its lines, and the first bad one. Every definition is total. Assumes nothing.
+use Prim.Native.Nat.{ℕ, zero, suc, _+_}
 use mathlib.Core.Bool.{Bool, false, cond, _&&_}
-use mathlib.Core.List.{List, [], _∷_, _++_}
-use lib.ListN.{length, drop, getD}
+use mathlib.Core.List.{List, [], _∷_}
+use lib.ListN.{length, take, drop, getD}
 use lib.Dec.{leb, ltb, eqb}
-use Rattle.wire.specs.Wire.{alike, pad}
+use Rattle.wire.specs.Wire.{joined, alike}
 use Rattle.text.specs.declared.Number.{Number}
 use Rattle.text.specs.declared.Number.the-variants.{Is, None}
-use Rattle.text.specs.Text.{ascii, isHex, unhex, isDigits, numberOf}
-use Rattle.text.specs.Lines.{headTo, tailAfter, startOf, fromLine, lineOf, ended}
-use Rattle.card.specs.declared.Codes.{Codes}
-use Rattle.card.specs.declared.Fixed.{Fixed}
-use Rattle.card.specs.declared.Flags.{Flags}
-use Rattle.card.specs.declared.Card.{Card}
-use Rattle.card.specs.Values.{fresh}
-use Rattle.card.specs.Image.{encode}
+use Rattle.text.specs.Text.{ascii, isHex, isDigits, numberOf}
+use Rattle.text.specs.Lines.{headTo, tailAfter, startOf, fromLine, ended, linesOf}
 
 -- VALUES. So many capital hex digits
 unfoldable pub isHexOf : ℕ → List ℕ → Bool
@@ -72,6 +65,14 @@ rows =
     ∷ record { name = ascii "active"; good = isFlag }
     ∷ []
 
+-- how many they are
+abbrev pub sheetLines : ℕ
+sheetLines = 13
+
+-- the lines that may follow them, in this order: today there are none
+unfoldable pub optional : List Row
+optional = []
+
 -- line k, counted from 1; a line past the last takes no value
 unfoldable pub noRow : Row
 noRow = record { name = []; good = λ v. false }
@@ -79,54 +80,47 @@ noRow = record { name = []; good = λ v. false }
 unfoldable pub rowOf : ℕ → Row
 rowOf k = getD (noRow ∷ rows) k noRow
 
--- "name, tab, value": they are line k's
-unfoldable pub goodRow : ℕ → List ℕ → List ℕ → Bool
-goodRow k name value = alike name (rowOf k .name) && rowOf k .good value
+-- "name, tab, value": they are the row's
+unfoldable pub goodRow : Row → List ℕ → List ℕ → Bool
+goodRow r name value = alike name (r .name) && r .good value
 
--- a text begins with a good line k: name, tab, value, line feed. (A line without a tab has an empty value, and none is good.)
-unfoldable pub goodLine : ℕ → List ℕ → Bool
-goodLine k s = ended s && goodRow k (headTo 9 (headTo 10 s)) (tailAfter 9 (headTo 10 s))
+-- the name of the line that a text begins with, before its tab, and the value after it; a line without a tab has an empty value, and none is good
+abbrev pub nameIn : List ℕ → List ℕ
+nameIn s = headTo 9 (headTo 10 s)
 
--- THE FIRST BAD LINE of n lines from line k on (a missing line is bad), then the line after them where bytes stand there, or 0
+abbrev pub valueIn : List ℕ → List ℕ
+valueIn s = tailAfter 9 (headTo 10 s)
+
+-- a text begins with a good line of the row: name, tab, value, line feed
+unfoldable pub goodLine : Row → List ℕ → Bool
+goodLine r s = ended s && goodRow r (nameIn s) (valueIn s)
+
+-- AFTER THE LINES THAT MUST BE THERE, from line k on: an optional line that is there by its name must be good, one that is not is skipped; then the
+-- line after them where bytes stand there, or 0
+unfoldable pub badAfter : List Row → ℕ → List ℕ → ℕ
+badAfter [] k s = cond (ltb (startOf k s) (length s)) k 0
+badAfter (r ∷ rs) k s =
+    cond (alike (nameIn (fromLine k s)) (r .name)) (cond (goodLine r (fromLine k s)) (badAfter rs (suc k) s) k) (badAfter rs k s)
+
+-- THE FIRST BAD LINE of n lines from line k on (a missing line is bad), and then of what follows them
 unfoldable pub badFrom : ℕ → ℕ → List ℕ → ℕ
-badFrom zero k s = cond (ltb (startOf k s) (length s)) k 0
-badFrom (suc n) k s = cond (goodLine k (fromLine k s)) (badFrom n (suc k) s) k
+badFrom zero k s = badAfter optional k s
+badFrom (suc n) k s = cond (goodLine (rowOf k) (fromLine k s)) (badFrom n (suc k) s) k
 
 unfoldable pub firstBad : List ℕ → ℕ
-firstBad s = badFrom 13 1 s
+firstBad s = badFrom sheetLines 1 s
 
--- THE CARD of a good sheet: fresh, with the values of its lines
-unfoldable pub valueOf : ℕ → List ℕ → List ℕ
-valueOf k s = tailAfter 9 (lineOf k s)
+-- A FILE THAT BEGINS WITH A SHEET. After so many lines, the next one still belongs to it
+unfoldable pub belongs : ℕ → Bool
+belongs n = ltb n sheetLines
 
-unfoldable pub sheetCodes : List ℕ → Codes
-sheetCodes s = record { pin1 = pad 32 (unhex (valueOf 2 s)); pin2 = pad 32 (unhex (valueOf 3 s)) }
+-- the sheet in a file, and the lines after it
+unfoldable pub sheetIn : List ℕ → List ℕ
+sheetIn s = joined (take sheetLines (linesOf s))
 
--- cvc is stored as characters
-unfoldable pub sheetFixed : List ℕ → Fixed
-sheetFixed s = record { cid = pad 8 (unhex (valueOf 1 s)); cvc = pad 3 (valueOf 4 s); curve = curveOf (valueOf 5 s); max = maxOf (valueOf 6 s) }
+unfoldable pub afterSheet : List ℕ → List (List ℕ)
+afterSheet s = drop sheetLines (linesOf s)
 
-unfoldable pub sheetFlags : List ℕ → Flags
-sheetFlags s =
-    record {
-      reusable = flagOf (valueOf 7 s);
-      usecvc = flagOf (valueOf 8 s);
-      setpin1 = flagOf (valueOf 9 s);
-      setpin2 = flagOf (valueOf 10 s);
-      nopurge = flagOf (valueOf 11 s);
-      replay = flagOf (valueOf 12 s);
-      active = flagOf (valueOf 13 s);
-    }
-
-unfoldable pub sheetCard : List ℕ → Card
-sheetCard s = fresh (sheetFixed s) (sheetFlags s) (sheetCodes s)
-
--- THE OUTCOME of the reader: its answer, and what the image buffer then holds. "An image buffer below 4,096 bytes answers 99" before any line is read
-pub record Outcome : Type 0 where
-  pub answer : ℕ
-  pub image : List ℕ
-
-unfoldable pub personalised : List ℕ → List ℕ → Outcome
-personalised s out =
-    cond (ltb (length out) 4096) (record { answer = 99; image = out })
-    (cond (eqb (firstBad s) 0) (record { answer = 0; image = encode (sheetCard s) ++ drop 2429 out }) (record { answer = firstBad s; image = out }))
+-- the number in the file of the line that stands after the sheet and n lines more
+unfoldable pub lineAfter : ℕ → ℕ
+lineAfter n = sheetLines + suc n

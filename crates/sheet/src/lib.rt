@@ -1,32 +1,28 @@
-// The personalisation sheet, 01: thirteen lines, each name, tab, value, line feed. The reader answers the number of the first bad
-// line, or makes the fresh card of a good sheet; the values are read again by their line's number, so that no state is carried.
-use card::Card;
-use card::Codes;
+// The personalisation sheet, 01: lines, each name, tab, value, line feed; which of them is the first bad one, and where in a file a
+// sheet ends.
 use card::Fixed;
-use card::Flags;
 use text::Number;
 use text::lines;
 ghost use mathlib.Core.Path.{_≡_};
 ghost use mathlib.Core.Bool.{_&&_, cond};
 ghost use lib.Dec.{ltb};
-ghost use Rattle.wire.specs.Wire.{alike, pad};
-ghost use Rattle.text.specs.Text.{unhex};
-ghost use Rattle.sheet.specs.Sheet.{isHexOf, isCvc, curveOf, isCurve, countOf, maxOf, isMax, flagOf, isFlag, goodRow, goodLine, firstBad, valueOf, sheetCodes, sheetFixed, sheetFlags, sheetCard, personalised};
+ghost use Rattle.wire.specs.Wire.{alike};
+ghost use Rattle.sheet.specs.Sheet.{isHexOf, isCvc, curveOf, isCurve, countOf, maxOf, isMax, flagOf, isFlag};
+ghost use Rattle.sheet.specs.Sheet.{rowOf, goodRow, goodLine, firstBad, belongs, lineAfter};
 
 // The lines of a sheet.
-const LINES: u32 = 13;
+pub const LINES: u32 = 13;
 
-// The answer for an image buffer that is too short.
-pub const NO_ROOM: u32 = 99;
+// The values: what each spells, and 0, 0 or 2 where it is none.
 
-fn curve_of(v: &[u8]) -> u8
+pub fn curve_of(v: &[u8]) -> u8
     ensures { λ r. ⌜ r ≡ curveOf (now (v .entry)) ⌝ }
 {
     if wire::equal(v, b"secp256k1") {
-        return card::SECP256K1;
+        return Fixed::SECP256K1;
     }
     if wire::equal(v, b"ed25519") {
-        return card::ED25519;
+        return Fixed::ED25519;
     }
     0
 }
@@ -40,13 +36,13 @@ fn count_of(n: Number) -> u32
     }
 }
 
-fn max_of(v: &[u8]) -> u32
+pub fn max_of(v: &[u8]) -> u32
     ensures { λ r. ⌜ r ≡ maxOf (now (v .entry)) ⌝ }
 {
     count_of(text::number_of(v))
 }
 
-fn flag_of(v: &[u8]) -> u8
+pub fn flag_of(v: &[u8]) -> u8
     ensures { λ r. ⌜ r ≡ flagOf (now (v .entry)) ⌝ }
 {
     if wire::equal(v, b"0") {
@@ -94,7 +90,7 @@ fn flag_row(name: &[u8], word: &[u8], value: &[u8]) -> bool
 
 // The lines in their order.
 fn good_row(line: u32, name: &[u8], value: &[u8]) -> bool
-    ensures { λ r. ⌜ r ≡ goodRow line (now (name .entry)) (now (value .entry)) ⌝ }
+    ensures { λ r. ⌜ r ≡ goodRow (rowOf line) (now (name .entry)) (now (value .entry)) ⌝ }
 {
     match line {
         1 => hex_row(name, b"cid", value, 16),
@@ -116,7 +112,7 @@ fn good_row(line: u32, name: &[u8], value: &[u8]) -> bool
 
 // Whether the text begins with a good line of that number.
 fn good_line(line: u32, s: &[u8]) -> bool
-    ensures { λ r. ⌜ r ≡ goodLine line (now (s .entry)) ⌝ }
+    ensures { λ r. ⌜ r ≡ goodLine (rowOf line) (now (s .entry)) ⌝ }
 {
     let all = lines::head_to(s, lines::LINE_FEED);
     let name = lines::head_to(all, lines::TAB);
@@ -124,7 +120,7 @@ fn good_line(line: u32, s: &[u8]) -> bool
     wire::both(lines::is_ended(s), good_row(line, name, value))
 }
 
-// What follows the last line: 14 where bytes stand there.
+// What follows the last line: its number where bytes stand there.
 fn after_last(line: u32, at: usize, size: usize) -> u32
     ensures { λ r. ⌜ r ≡ cond (ltb at size) line 0 ⌝ }
 {
@@ -134,7 +130,7 @@ fn after_last(line: u32, at: usize, size: usize) -> u32
     0
 }
 
-// The number of the first bad line, 1 to 13, or 14 for bytes after line 13; 0 for a good sheet.
+// The number of the first bad line, or of the line after the last where bytes stand there; 0 for a good sheet.
 pub fn first_bad(sheet: &[u8]) -> u32
     ensures { λ r. ⌜ r ≡ firstBad (now (sheet .entry)) ⌝ }
 {
@@ -153,88 +149,16 @@ pub fn first_bad(sheet: &[u8]) -> u32
     bad
 }
 
-// The value of line k.
-fn value_of(sheet: &[u8], k: u32) -> &[u8]
-    ensures { λ r. ⌜ now r ≡ valueOf k (now (sheet .entry)) ⌝ }
+// Whether, after so many lines of a file that begins with a sheet, the next one still belongs to it.
+pub fn belongs(lines: u32) -> bool
+    ensures { λ r. ⌜ r ≡ belongs lines ⌝ }
 {
-    lines::tail_after(lines::line_of(sheet, k), lines::TAB)
+    lines < LINES
 }
 
-fn hex8(v: &[u8]) -> [u8; 8]
-    ensures { λ r. ⌜ r ≡ pad 8 (unhex (now (v .entry))) ⌝ }
+// The number in the file of the line that stands after the sheet and so many lines more.
+pub fn line_after(more: u16) -> u32
+    ensures { λ r. ⌜ r ≡ lineAfter more ⌝ }
 {
-    let mut a = [0u8; 8];
-    text::unhex(v, &mut a, 0);
-    a
-}
-
-fn hex32(v: &[u8]) -> [u8; 32]
-    ensures { λ r. ⌜ r ≡ pad 32 (unhex (now (v .entry))) ⌝ }
-{
-    let mut a = [0u8; 32];
-    text::unhex(v, &mut a, 0);
-    a
-}
-
-fn codes_of(sheet: &[u8]) -> Codes
-    ensures { λ r. ⌜ r ≡ sheetCodes (now (sheet .entry)) ⌝ }
-{
-    Codes {
-        pin1: hex32(value_of(sheet, 2)),
-        pin2: hex32(value_of(sheet, 3)),
-    }
-}
-
-fn fixed_of(sheet: &[u8]) -> Fixed
-    ensures { λ r. ⌜ r ≡ sheetFixed (now (sheet .entry)) ⌝ }
-{
-    Fixed {
-        cid: hex8(value_of(sheet, 1)),
-        cvc: wire::pad3(value_of(sheet, 4)),
-        curve: curve_of(value_of(sheet, 5)),
-        max: max_of(value_of(sheet, 6)),
-    }
-}
-
-fn flag_at(sheet: &[u8], k: u32) -> u8
-    ensures { λ r. ⌜ r ≡ flagOf (valueOf k (now (sheet .entry))) ⌝ }
-{
-    flag_of(value_of(sheet, k))
-}
-
-fn flags_of(sheet: &[u8]) -> Flags
-    ensures { λ r. ⌜ r ≡ sheetFlags (now (sheet .entry)) ⌝ }
-{
-    Flags {
-        reusable: flag_at(sheet, 7),
-        usecvc: flag_at(sheet, 8),
-        setpin1: flag_at(sheet, 9),
-        setpin2: flag_at(sheet, 10),
-        nopurge: flag_at(sheet, 11),
-        replay: flag_at(sheet, 12),
-        active: flag_at(sheet, 13),
-    }
-}
-
-// The fresh card that a good sheet describes.
-pub fn card_of(sheet: &[u8]) -> Card
-    ensures { λ r. ⌜ r ≡ sheetCard (now (sheet .entry)) ⌝ }
-{
-    Card::fresh(fixed_of(sheet), flags_of(sheet), codes_of(sheet))
-}
-
-// Writes the image of the fresh card that the sheet describes, and answers 0; the number of the first bad line, or 99 for a
-// buffer without room for an image, leaves the buffer as it is.
-pub fn personalise(sheet: &[u8], image: &mut [u8]) -> u32
-    ensures { λ r. ⌜ (r ≡ personalised (now (sheet .entry)) (now (image .entry)) .answer) × (now (image .exit) ≡ personalised (now (sheet .entry)) (now (image .entry)) .image) ⌝ }
-{
-    if image.len() < card::IMAGE_ROOM {
-        return NO_ROOM;
-    }
-    let bad = first_bad(sheet);
-    if bad != 0 {
-        return bad;
-    }
-    image::write(card_of(sheet), image);
-    0
+    LINES + more as u32 + 1
 }

@@ -1,5 +1,6 @@
 // The sheet reader, run on the cases of tests/sheets.py: each line of standard input is the size of an image buffer, a tab and a
 // sheet in capital hex. For each it prints the answer, how many bytes of the buffer changed beyond the image, and the image.
+use card::layout;
 use libc::STDIN_FILENO;
 use libc::STDOUT_FILENO;
 use text::Number;
@@ -27,9 +28,9 @@ fn put_answer(out: &mut [u8], answer: u32, image: &[u8]) -> usize {
     if answer != 0 {
         return text::put_decimal(out, b, changed(image, 0));
     }
-    let c = text::put_decimal(out, b, changed(image, card::IMAGE_SIZE));
+    let c = text::put_decimal(out, b, changed(image, layout::IMAGE_SIZE));
     let d = wire::put8(out, c, lines::TAB);
-    text::put_hex(out, d, wire::part(image, 0, card::IMAGE_SIZE))
+    text::put_hex(out, d, wire::part(image, 0, layout::IMAGE_SIZE))
 }
 
 fn print(answer: u32, image: &[u8]) {
@@ -50,9 +51,9 @@ fn size_of(s: &[u8]) -> usize {
 // The reader, on the first `size` bytes of the buffer.
 fn personalise(sheet: &[u8], image: &mut [u8], size: usize) -> u32 {
     if size <= image.len() {
-        return sheet::personalise(sheet, &mut image[..size]);
+        return personalise::personalise(sheet, &mut image[..size]);
     }
-    sheet::personalise(sheet, image)
+    personalise::personalise(sheet, image)
 }
 
 fn run(size: usize, sheet: &[u8]) {
@@ -62,7 +63,7 @@ fn run(size: usize, sheet: &[u8]) {
 }
 
 fn run_case(case: &[u8]) {
-    let mut sheet = [0u8; 2048];
+    let mut sheet = io::buffer();
     let n = text::unhex(lines::tail_after(case, lines::TAB), &mut sheet, 0);
     run(
         size_of(lines::head_to(case, lines::TAB)),

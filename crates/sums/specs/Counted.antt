@@ -3,9 +3,11 @@
 use Prim.Native.Nat.{ℕ, _+_}
 use mathlib.Core.Bool.{true, false, cond}
 use Rattle.card.specs.Values.{u32}
-use Rattle.manual.specs.Request.{payload}
-use Rattle.manual.specs.Wallet.{count}
-use Rattle.history.specs.Sums.{Tap, did, signedNew}
+use Rattle.fields.specs.Fields.{View}
+use Rattle.manual.specs.declared.Command.the-variants.{CreateWallet, PurgeWallet}
+use Rattle.manual.specs.Wallet.{isNew, count}
+use Rattle.manual.specs.Settle.{sentIn}
+use Rattle.story.specs.Sums.{Tap, did, signedNew}
 use Rattle.sums.specs.declared.Sums.{Sums}
 
 -- before any tap
@@ -25,7 +27,14 @@ withSigned n s = record { live = s .live; made = u32 (s .made + 1); hashes = u32
 
 -- A TAP MORE: the last signatures again are no new SIGN
 unfoldable pub counted : Sums → Tap → Sums
-counted s t = cond (did 0xF8 t) (withWallet s) (cond (did 0xFC t) (withNone s) (cond (signedNew t) (withSigned (count (payload (t .request))) s) s))
+counted s t =
+    cond (did CreateWallet t) (withWallet s)
+    (cond (did PurgeWallet t) (withNone s)
+    (cond (signedNew t) (withSigned (count (sentIn (t .request))) s) s))
+
+-- what the code promises on the way, of a SIGN that sent v
+abbrev pub withSigning : View → Sums → Sums
+withSigning v s = cond (isNew v) (withSigned (count v) s) s
 
 -- the new SIGNs of the live wallet, none where no wallet lives
 abbrev pub liveSigns : Sums → ℕ

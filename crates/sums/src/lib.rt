@@ -1,11 +1,15 @@
 // What a play sums up, Ask 4: from requests and responses alone.
+use manual::Outcome;
 use manual::Signing;
+use manual::tag;
+use sent::Places;
 ghost use mathlib.Core.Path.{_≡_};
-ghost use mathlib.Core.Bool.{cond};
 ghost use Rattle.card.specs.Values.{u32};
+ghost use Rattle.sent.specs.Sent.{viewBy};
 ghost use Rattle.manual.specs.Wallet.{isNew, count};
-ghost use Rattle.history.specs.Sums.{isDone, accepted, tap};
-ghost use Rattle.sums.specs.Counted.{noSums, withWallet, withNone, withSigned, counted, liveSigns};
+ghost use Rattle.manual.specs.Settle.{sentIn};
+ghost use Rattle.story.specs.Sums.{isDone, accepted, tap};
+ghost use Rattle.sums.specs.Counted.{noSums, withWallet, withNone, withSigned, withSigning, counted, liveSigns};
 
 // Whether a wallet lives, the SIGNs that made new signatures since its creation, all hashes newly signed.
 pub struct Sums {
@@ -29,7 +33,10 @@ pub fn none() -> Sums
 fn is_done(word: u16) -> bool
     ensures { λ r. ⌜ r ≡ isDone word ⌝ }
 {
-    wire::both(0x9000 <= word, word <= 0x9003)
+    wire::both(
+        Outcome::SW_PROCESS_COMPLETED <= word,
+        word <= Outcome::SW_PROCESS_COMPLETED + 3,
+    )
 }
 
 // The status word is in the last two bytes.
@@ -72,29 +79,40 @@ fn with_signed(s: Sums, hashes: u32) -> Sums
     }
 }
 
-fn is_new(p: &[u8]) -> bool
-    ensures { λ r. ⌜ r ≡ isNew (now (p .entry)) ⌝ }
+fn is_new(p: &[u8], places: &Places) -> bool
+    ensures { λ r. ⌜ r ≡ isNew (viewBy (now (p .entry)) (now (places .entry))) ⌝ }
 {
-    match request::signing(p) {
+    match request::signing(p, places) {
         Signing::New(_) => true,
         Signing::Again => false,
     }
 }
 
-fn hashes(p: &[u8]) -> u32
-    ensures { λ r. ⌜ r ≡ u32 (count (now (p .entry))) ⌝ }
+fn hashes(p: &[u8], places: &Places) -> u32
+    ensures { λ r. ⌜ r ≡ u32 (count (viewBy (now (p .entry)) (now (places .entry)))) ⌝ }
 {
-    (fields::value(p, 0x50).len() / 32 % 4294967296) as u32
+    let hashes = sent::value(p, places, tag::TRANSACTION_HASH);
+    (hashes.len() / manual::HASH_SIZE % 4294967296) as u32
 }
 
 // The last signatures again are no new SIGN.
-fn signed(s: Sums, p: &[u8]) -> Sums
-    ensures { λ r. ⌜ r ≡ cond (isNew (now (p .entry))) (withSigned (count (now (p .entry))) s) s ⌝ }
+fn signed_by(s: Sums, p: &[u8], places: &Places) -> Sums
+    ensures { λ r. ⌜ r ≡ withSigning (viewBy (now (p .entry)) (now (places .entry))) s ⌝ }
 {
-    if is_new(p) {
-        return with_signed(s, hashes(p));
+    if is_new(p, places) {
+        return with_signed(s, hashes(p, places));
     }
     s
+}
+
+// By one walk over the payload.
+fn signed(s: Sums, request: &[u8]) -> Sums
+    ensures { λ r. ⌜ r ≡ withSigning (sentIn (now (request .entry))) s ⌝ }
+{
+    let p = request::payload(request);
+    let mut places = sent::none();
+    sent::fill(p, &mut places);
+    signed_by(s, p, &places)
 }
 
 // A tap more: only an accepted command counts.
@@ -104,7 +122,7 @@ pub fn count(s: Sums, request: &[u8], response: &[u8]) -> Sums
     if is_accepted(response) {
         match wire::get8(request, 1) {
             0xF8 => with_wallet(s),
-            0xFB => signed(s, request::payload(request)),
+            0xFB => signed(s, request),
             0xFC => with_none(s),
             _ => s,
         }

@@ -40,9 +40,13 @@ isExpected v = alike v (ascii "4") || isSome v
 unfoldable pub isTap : List ℕ → Bool
 isTap l = isSome (requestIn l) && (isDraw (drawIn l) && (isBytes (answersIn l) && isExpected (expectedIn l)))
 
--- a line is a tap: it has its line feed, at most 8,192 bytes before it, and the four fields
+-- the most bytes of a line before its line feed
+abbrev pub longest : ℕ
+longest = 8192
+
+-- a line is a tap: it has its line feed, no more bytes before it than a line may have, and the four fields
 unfoldable pub isTapLine : List ℕ → Bool
-isTapLine s = ended s && (leb (length (headTo 10 s)) 8192 && isTap (headTo 10 s))
+isTapLine s = ended s && (leb (length (headTo 10 s)) longest && isTap (headTo 10 s))
 
 -- A TAP as it was recorded: three fields as bytes, and the expected response as it is printed
 pub record Recorded : Type 0 where

@@ -4,7 +4,7 @@ ghost use mathlib.Core.Path.{_≡_};
 ghost use Rattle.tapline.specs.Line.{requestIn, drawIn, answersIn, expectedIn, isBytes, isSome, isDraw, isExpected, isTap, isTapLine};
 
 // The most bytes of a line before its line feed.
-const LONGEST: usize = 8192;
+pub const LONGEST: usize = 8192;
 
 pub fn request(l: &[u8]) -> &[u8]
     ensures { λ r. ⌜ now r ≡ requestIn (now (l .entry)) ⌝ }

@@ -4,7 +4,7 @@
 mod print;
 mod state;
 
-use card::IMAGE_SIZE;
+use card::layout::IMAGE_SIZE;
 use libc::STDIN_FILENO;
 use manual::Outcome;
 use state::State;

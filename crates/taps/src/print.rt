@@ -1,5 +1,5 @@
 // What taps prints, a line at a time, tests/README.md "The lines of taps".
-use card::IMAGE_SIZE;
+use card::layout::IMAGE_SIZE;
 use libc::STDOUT_FILENO;
 use manual::Outcome;
 use text::lines;
@@ -141,11 +141,14 @@ fn put_change(out: &mut [u8], from: usize, at: usize, old: &[u8], new: &[u8], i:
     at
 }
 
+// The places of an image.
+const PLACES: u16 = IMAGE_SIZE as u16;
+
 // The runs of places where two images differ, each with its place and the new bytes.
 fn put_changes(out: &mut [u8], from: usize, old: &[u8], new: &[u8]) -> usize {
     let mut at = from;
     let mut i: u16 = 0;
-    while i < 2429 {
+    while i < PLACES {
         at = put_change(out, from, at, old, new, i);
         i += 1;
     }

@@ -1,4 +1,5 @@
 // What lasts from line to line, beside the bytes of the line in hand and of the image.
+use card::layout;
 
 // How many bytes of the line and of the image there are, the lengths of the buffers that are lent, whether the input has ended.
 pub struct State {
@@ -15,9 +16,9 @@ impl State {
         State {
             line: 0,
             image: 0,
-            questions: 2048,
-            response: 2048,
-            next: 4096,
+            questions: manual::QUESTIONS_ROOM,
+            response: manual::RESPONSE_ROOM,
+            next: layout::IMAGE_ROOM,
             ended: false,
         }
     }

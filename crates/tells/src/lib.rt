@@ -1,41 +1,76 @@
-// The column of the manual's rows with the response's fields, after CID, of the face after.
-use card::Front;
-use card::Key;
+// The response: CID, the column of the manual's rows with the fields that follow it, of the face after, and the status word.
+use card::Fixed;
+use card::Last;
+use card::Wallet;
 use manual::Command;
+use manual::Outcome;
+use manual::tag;
+use sent::Places;
 ghost use mathlib.Core.Path.{_≡_};
-ghost use Prim.Native.Nat.{ℕ, _≤_};
+ghost use Prim.Native.Nat.{ℕ, _+_, _≤_};
+ghost use mathlib.Core.Bool.{cond};
 ghost use mathlib.Core.List.{List};
-ghost use lib.ListN.{length};
-ghost use Rattle.wire.specs.Wire.{Wrote, part};
-ghost use Rattle.fields.specs.Fields.{Told, tlv};
+ghost use Rattle.wire.specs.Wire.{Wrote, Wrotes, part};
+ghost use Rattle.fields.specs.Fields.{View, tlv, each};
+ghost use Rattle.sent.specs.Sent.{viewBy};
 ghost use Rattle.card.specs.declared.Face.{Face};
+ghost use Rattle.card.specs.Layout.{signatureSize};
+ghost use Rattle.card.specs.Values.{keyOf, lastOf};
 ghost use Rattle.card.specs.Image.{decode};
-ghost use Rattle.image.specs.Group.{blockIn};
-ghost use Rattle.card.specs.Values.{keyOf, blockOf, lastOf, bare};
+ghost use Rattle.manual.specs.Words.{swProcessCompleted};
+ghost use Rattle.manual.specs.Tags.{CID, CurveID, CardSignature, WalletPublicKey, Signature};
 ghost use Rattle.manual.specs.Commands.{row};
-ghost use Rattle.manual.specs.Wallet.{createWallet, sign, purgeWallet, readFields, activeFields, walletFields, curveName};
+ghost use Rattle.manual.specs.Wallet.{createWallet, setPin, sign, purgeWallet, readFields, activeFields, walletFields, curveName};
 ghost use Rattle.manual.specs.Checking.{checkedFields, keyFields, verifyCard, validateCard};
 ghost use Rattle.manual.specs.Storage.{heldField, readUserData, noteFields, readIssuerData};
+ghost use Rattle.manual.specs.Settle.{matched, fieldsOf};
 
+// The fields of a response from the front of the buffer: CID, then the command's own.
 pub fn tell(
     cmd: Command,
     img: &[u8],
     p: &[u8],
+    places: &Places,
+    draw: &[u8],
+    answers: &[u8],
+    out: &mut [u8],
+) -> usize
+    ensures { λ r. ⌜ Wrotes (now (out .entry)) 0
+        (each (fieldsOf (row cmd) (decode (now (img .entry)) .face) (viewBy (now (p .entry)) (now (places .entry))) (now (draw .entry)) (now (answers .entry))))
+        (now (out .exit)) r ⌝ }
+{
+    let at = put_cid(img, out);
+    tell_own(cmd, img, p, places, draw, answers, out, at)
+}
+
+fn put_cid(img: &[u8], out: &mut [u8]) -> usize
+    ensures { λ r. ⌜ Wrote (now (out .entry)) 0 (tlv CID (decode (now (img .entry)) .face .front .fixed .cid)) (now (out .exit)) r ⌝ }
+{
+    fields::put_field(out, 0, tag::CID, image::cid(img))
+}
+
+fn tell_own(
+    cmd: Command,
+    img: &[u8],
+    p: &[u8],
+    places: &Places,
     draw: &[u8],
     answers: &[u8],
     out: &mut [u8],
     at: usize,
 ) -> usize
-    ensures { λ r. ⌜ Told 1200 (now (out .entry)) at (row cmd .fieldsOut (decode (now (img .entry)) .face) (now (p .entry)) (now (draw .entry)) (now (answers .entry))) (now (out .exit)) r ⌝ }
+    ensures { λ r. ⌜ Wrotes (now (out .entry)) at
+        (each (row cmd .fieldsOut (decode (now (img .entry)) .face) (viewBy (now (p .entry)) (now (places .entry))) (now (draw .entry)) (now (answers .entry))))
+        (now (out .exit)) r ⌝ }
 {
     match cmd {
-        Command::ReadCard => tell_read(image::front(img), out, at),
-        Command::CreateWallet => tell_created(image::front(img), out, at),
-        Command::CheckWallet => tell_checked(image::front(img), p, draw, answers, out, at),
+        Command::ReadCard => tell_read(img, out, at),
+        Command::CreateWallet => tell_created(img, out, at),
+        Command::CheckWallet => tell_checked(img, p, places, draw, answers, out, at),
         Command::SetPin => at,
         Command::Sign => tell_signed(img, out, at),
         Command::VerifyCard => tell_verified(draw, answers, out, at),
-        Command::ValidateCard => tell_validated(image::front(img), answers, out, at),
+        Command::ValidateCard => tell_validated(img, answers, out, at),
         Command::PurgeWallet => tell_purged(img, out, at),
         Command::ReadUserData => tell_user(img, out, at),
         Command::WriteUserData => at,
@@ -44,204 +79,289 @@ pub fn tell(
     }
 }
 
+// The status word of a command that is carried out: 9000, and for SET_PIN what it changed.
+pub fn word(cmd: Command, img: &[u8], p: &[u8], places: &Places) -> u16
+    ensures { λ r. ⌜ r ≡ swProcessCompleted + row cmd .more (matched (decode (now (img .entry)) .codes) (viewBy (now (p .entry)) (now (places .entry)))) ⌝ }
+{
+    Outcome::SW_PROCESS_COMPLETED + more(cmd, img, p, places)
+}
+
+fn more(cmd: Command, img: &[u8], p: &[u8], places: &Places) -> u16
+    ensures { λ r. ⌜ (r ≡ row cmd .more (matched (decode (now (img .entry)) .codes) (viewBy (now (p .entry)) (now (places .entry))))) × (r ≤ 3) ⌝ }
+{
+    match cmd {
+        Command::ReadCard => 0,
+        Command::CreateWallet => 0,
+        Command::CheckWallet => 0,
+        Command::SetPin => renewed(img, p, places),
+        Command::Sign => 0,
+        Command::VerifyCard => 0,
+        Command::ValidateCard => 0,
+        Command::PurgeWallet => 0,
+        Command::ReadUserData => 0,
+        Command::WriteUserData => 0,
+        Command::WriteIssuerData => 0,
+        Command::ReadIssuerData => 0,
+    }
+}
+
+fn changed(same: bool, n: u16) -> u16
+    ensures { λ r. ⌜ (r ≡ cond same 0 n) × (r ≤ n) ⌝ }
+{
+    if same {
+        return 0;
+    }
+    n
+}
+
+// SET_PIN: 1 for PIN1, 2 for PIN2, each where it changed.
+fn renewed(img: &[u8], p: &[u8], places: &Places) -> u16
+    ensures { λ r. ⌜ (r ≡ setPin .more (matched (decode (now (img .entry)) .codes) (viewBy (now (p .entry)) (now (places .entry))))) × (r ≤ 3) ⌝ }
+{
+    let same1 = sent::holds(p, places, tag::NEW_PIN1, image::pin1(img));
+    let same2 = sent::holds(p, places, tag::NEW_PIN2, image::pin2(img));
+    changed(same1, 1) + changed(same2, 2)
+}
+
 // FC.
 fn tell_purged(img: &[u8], out: &mut [u8], at: usize) -> usize
-    ensures { λ r. ⌜ ((p d a : List ℕ) → Told 1200 (now (out .entry)) at (purgeWallet .fieldsOut (decode (now (img .entry)) .face) p d a) (now (out .exit)) r) ⌝ }
+    ensures { λ r. ⌜ ((v : View) (d a : List ℕ) → Wrotes (now (out .entry)) at
+        (each (purgeWallet .fieldsOut (decode (now (img .entry)) .face) v d a))
+        (now (out .exit)) r) ⌝ }
 {
     let wallet = image::wallet(img);
-    fields::put_byte(out, at, 0x02, wallet.status)
+    fields::put_byte(out, at, tag::STATUS, wallet.status)
 }
 
-// A field with the first n bytes of an array, which is passed by value so that its length is known.
-fn put_start65(out: &mut [u8], at: usize, tag: u8, a: [u8; 65], n: usize) -> usize
-    ensures { λ r. ⌜ (Wrote (now (out .entry)) at (tlv tag (part a 0 n)) (now (out .exit)) r) × (length a ≡ 65) ⌝ }
+fn put_key(img: &[u8], out: &mut [u8], at: usize) -> usize
+    ensures { λ r. ⌜ Wrote (now (out .entry)) at (tlv WalletPublicKey (keyOf (decode (now (img .entry)) .face .front .key))) (now (out .exit)) r ⌝ }
 {
-    fields::put_field(out, at, tag, wire::part(&a, 0, n))
-}
-
-fn put_key(key: Key, out: &mut [u8], at: usize) -> usize
-    ensures { λ r. ⌜ (Wrote (now (out .entry)) at (tlv 0x60 (keyOf key)) (now (out .exit)) r) × (length (keyOf key) ≤ 65) ⌝ }
-{
-    let bytes = key.bytes;
-    let n = key.size as usize;
-    put_start65(out, at, 0x60, bytes, n)
-}
-
-fn put_signature(out: &mut [u8], at: usize, tag: u8, a: [u8; 64]) -> usize
-    ensures { λ r. ⌜ (Wrote (now (out .entry)) at (tlv tag a) (now (out .exit)) r) × (length a ≡ 64) ⌝ }
-{
-    fields::put_field(out, at, tag, &a)
+    fields::put_field(out, at, tag::WALLET_PUBLIC_KEY, image::key(img))
 }
 
 fn put_curve(curve: u8, out: &mut [u8], at: usize) -> usize
-    ensures { λ r. ⌜ (Wrote (now (out .entry)) at (tlv 0x05 (curveName curve)) (now (out .exit)) r) × (length (curveName curve) ≤ 9) ⌝ }
+    ensures { λ r. ⌜ Wrote (now (out .entry)) at (tlv CurveID (curveName curve)) (now (out .exit)) r ⌝ }
 {
-    if curve == card::SECP256K1 {
+    if curve == Fixed::SECP256K1 {
         let name = [0x73u8, 0x65, 0x63, 0x70, 0x32, 0x35, 0x36, 0x6B, 0x31];
-        return fields::put_field(out, at, 0x05, &name);
+        return fields::put_field(out, at, tag::CURVE_ID, &name);
     }
     let name = [0x65u8, 0x64, 0x32, 0x35, 0x35, 0x31, 0x39];
-    fields::put_field(out, at, 0x05, &name)
+    fields::put_field(out, at, tag::CURVE_ID, &name)
 }
 
 // F2.
-fn tell_read(face: Front, out: &mut [u8], at: usize) -> usize
-    ensures { λ r. ⌜ Told 1200 (now (out .entry)) at (readFields (bare face)) (now (out .exit)) r ⌝ }
+fn tell_read(img: &[u8], out: &mut [u8], at: usize) -> usize
+    ensures { λ r. ⌜ Wrotes (now (out .entry)) at (each (readFields (decode (now (img .entry)) .face))) (now (out .exit)) r ⌝ }
 {
-    let a = fields::put_byte(out, at, 0x02, face.wallet.status);
-    if face.flags.active == 1 {
-        return tell_active(face, out, a);
+    let wallet = image::wallet(img);
+    let a = fields::put_byte(out, at, tag::STATUS, wallet.status);
+    let flags = image::flags(img);
+    if flags.active == 1 {
+        return tell_active(img, out, a);
     }
-    fields::put_byte(out, a, 0x3A, 0)
+    fields::put_byte(out, a, tag::IS_ACTIVATED, 0)
 }
 
-fn tell_active(face: Front, out: &mut [u8], at: usize) -> usize
-    ensures { λ r. ⌜ Told 200 (now (out .entry)) at (activeFields (bare face)) (now (out .exit)) r ⌝ }
+fn tell_active(img: &[u8], out: &mut [u8], at: usize) -> usize
+    ensures { λ r. ⌜ Wrotes (now (out .entry)) at (each (activeFields (decode (now (img .entry)) .face))) (now (out .exit)) r ⌝ }
 {
-    let a = put_curve(face.fixed.curve, out, at);
-    let b = fields::put_number(out, a, 0x63, face.wallet.signed);
-    tell_wallet(face, out, b)
+    let a = put_curve(image::curve(img), out, at);
+    let wallet = image::wallet(img);
+    let b = fields::put_number(out, a, tag::SIGNED_HASHES, wallet.signed);
+    tell_wallet(img, out, b)
 }
 
-fn tell_wallet(face: Front, out: &mut [u8], at: usize) -> usize
-    ensures { λ r. ⌜ Told 100 (now (out .entry)) at (walletFields (bare face)) (now (out .exit)) r ⌝ }
+fn tell_wallet(img: &[u8], out: &mut [u8], at: usize) -> usize
+    ensures { λ r. ⌜ Wrotes (now (out .entry)) at (each (walletFields (decode (now (img .entry)) .face))) (now (out .exit)) r ⌝ }
 {
-    if face.wallet.status == card::LOADED {
-        let key = face.key;
-        let a = put_key(key, out, at);
-        return fields::put_number(out, a, 0x62, face.wallet.remaining);
+    let wallet = image::wallet(img);
+    if wallet.status == Wallet::LOADED {
+        let a = put_key(img, out, at);
+        return fields::put_number(out, a, tag::REMAINING, wallet.remaining);
     }
     at
 }
 
 // F8.
-fn tell_created(face: Front, out: &mut [u8], at: usize) -> usize
-    ensures { λ r. ⌜ ((p d a : List ℕ) → Told 1200 (now (out .entry)) at (createWallet .fieldsOut (bare face) p d a) (now (out .exit)) r) ⌝ }
+fn tell_created(img: &[u8], out: &mut [u8], at: usize) -> usize
+    ensures { λ r. ⌜ ((v : View) (d a : List ℕ) → Wrotes (now (out .entry)) at
+        (each (createWallet .fieldsOut (decode (now (img .entry)) .face) v d a))
+        (now (out .exit)) r) ⌝ }
 {
-    let a = fields::put_byte(out, at, 0x02, face.wallet.status);
-    let key = face.key;
-    put_key(key, out, a)
+    let wallet = image::wallet(img);
+    let a = fields::put_byte(out, at, tag::STATUS, wallet.status);
+    put_key(img, out, a)
 }
 
-// A field with a slice of at most 640 bytes.
 fn put_last(img: &[u8], out: &mut [u8], at: usize) -> usize
-    ensures { λ r. ⌜ (Wrote (now (out .entry)) at (tlv 0x61 (lastOf (decode (now (img .entry)) .face .last))) (now (out .exit)) r) × (length (lastOf (decode (now (img .entry)) .face .last)) ≤ 640) ⌝ }
+    ensures { λ r. ⌜ Wrote (now (out .entry)) at (tlv Signature (lastOf (decode (now (img .entry)) .face .last))) (now (out .exit)) r ⌝ }
 {
-    fields::put_field(out, at, 0x61, image::last(img))
+    fields::put_field(out, at, tag::SIGNATURE, image::last(img))
 }
 
 // FB, new or again.
 fn tell_signed(img: &[u8], out: &mut [u8], at: usize) -> usize
-    ensures { λ r. ⌜ ((p d a : List ℕ) → Told 1200 (now (out .entry)) at (sign .fieldsOut (decode (now (img .entry)) .face) p d a) (now (out .exit)) r) ⌝ }
+    ensures { λ r. ⌜ ((v : View) (d a : List ℕ) → Wrotes (now (out .entry)) at
+        (each (sign .fieldsOut (decode (now (img .entry)) .face) v d a))
+        (now (out .exit)) r) ⌝ }
 {
     let a = put_last(img, out, at);
     let wallet = image::wallet(img);
-    let b = fields::put_number(out, a, 0x62, wallet.remaining);
-    fields::put_number(out, b, 0x63, wallet.signed)
+    let b = fields::put_number(out, a, tag::REMAINING, wallet.remaining);
+    fields::put_number(out, b, tag::SIGNED_HASHES, wallet.signed)
 }
 
-// A field of 16 bytes of the draw, or of 64 bytes of the answers.
+// A field with a salt out of the draw, or with a signature out of the answers.
 fn put_part(out: &mut [u8], at: usize, tag: u8, s: &[u8], start: usize, n: usize) -> usize
-    ensures { λ r. ⌜ (Wrote (now (out .entry)) at (tlv tag (part (now (s .entry)) start n)) (now (out .exit)) r) × (length (part (now (s .entry)) start n) ≤ n) ⌝ }
+    ensures { λ r. ⌜ Wrote (now (out .entry)) at (tlv tag (part (now (s .entry)) start n)) (now (out .exit)) r ⌝ }
 {
     fields::put_field(out, at, tag, wire::part(s, start, n))
 }
 
 // F9.
 fn tell_checked(
-    face: Front,
+    img: &[u8],
     p: &[u8],
+    places: &Places,
     draw: &[u8],
     answers: &[u8],
     out: &mut [u8],
     at: usize,
 ) -> usize
-    ensures { λ r. ⌜ Told 1200 (now (out .entry)) at (checkedFields (bare face) (now (p .entry)) (now (draw .entry)) (now (answers .entry))) (now (out .exit)) r ⌝ }
+    ensures { λ r. ⌜ Wrotes (now (out .entry)) at
+        (each (checkedFields (decode (now (img .entry)) .face) (viewBy (now (p .entry)) (now (places .entry))) (now (draw .entry)) (now (answers .entry))))
+        (now (out .exit)) r ⌝ }
 {
-    let salted = put_part(out, at, 0x17, draw, 0, 16);
-    let signed = put_part(out, salted, 0x61, answers, 0, 64);
-    if fields::has(p, 0x14) {
-        return tell_key(face, p, draw, answers, out, signed);
+    let salted = put_part(out, at, tag::SALT, draw, 0, manual::SALT_SIZE);
+    let signed = put_part(
+        out,
+        salted,
+        tag::SIGNATURE,
+        answers,
+        0,
+        Last::SIGNATURE_SIZE,
+    );
+    if sent::has(p, places, tag::PUBLIC_KEY_CHALLENGE) {
+        return tell_key(img, p, places, draw, answers, out, signed);
     }
     signed
 }
 
 // With tag 14.
-fn tell_key(face: Front, p: &[u8], draw: &[u8], answers: &[u8], out: &mut [u8], at: usize) -> usize
-    ensures { λ r. ⌜ Told 200 (now (out .entry)) at (keyFields (bare face) (now (p .entry)) (now (draw .entry)) (now (answers .entry))) (now (out .exit)) r ⌝ }
+fn tell_key(
+    img: &[u8],
+    p: &[u8],
+    places: &Places,
+    draw: &[u8],
+    answers: &[u8],
+    out: &mut [u8],
+    at: usize,
+) -> usize
+    ensures { λ r. ⌜ Wrotes (now (out .entry)) at
+        (each (keyFields (decode (now (img .entry)) .face) (viewBy (now (p .entry)) (now (places .entry))) (now (draw .entry)) (now (answers .entry))))
+        (now (out .exit)) r ⌝ }
 {
-    let a = fields::put_number(out, at, 0x64, face.counters.checks);
-    let challenge = fields::value(p, 0x14);
+    let counters = image::counters(img);
+    let a = fields::put_number(out, at, tag::CHECK_WALLET_COUNTER, counters.checks);
+    let challenge = sent::value(p, places, tag::PUBLIC_KEY_CHALLENGE);
     if challenge.len() == 0 {
-        return put_part(out, a, 0x04, answers, 64, 64);
+        return put_card_signature(out, a, answers, Last::SIGNATURE_SIZE);
     }
-    let b = put_part(out, a, 0x15, draw, 16, 16);
-    put_part(out, b, 0x04, answers, 64, 64)
+    let b = put_part(
+        out,
+        a,
+        tag::PUBLIC_KEY_SALT,
+        draw,
+        manual::SALT_SIZE,
+        manual::SALT_SIZE,
+    );
+    put_card_signature(out, b, answers, Last::SIGNATURE_SIZE)
+}
+
+fn put_card_signature(out: &mut [u8], at: usize, answers: &[u8], start: usize) -> usize
+    ensures { λ r. ⌜ Wrote (now (out .entry)) at (tlv CardSignature (part (now (answers .entry)) start signatureSize)) (now (out .exit)) r ⌝ }
+{
+    put_part(
+        out,
+        at,
+        tag::CARD_SIGNATURE,
+        answers,
+        start,
+        Last::SIGNATURE_SIZE,
+    )
 }
 
 // F3.
 fn tell_verified(draw: &[u8], answers: &[u8], out: &mut [u8], at: usize) -> usize
-    ensures { λ r. ⌜ ((f : Face) (p : List ℕ) → Told 1200 (now (out .entry)) at (verifyCard .fieldsOut f p (now (draw .entry)) (now (answers .entry))) (now (out .exit)) r) ⌝ }
+    ensures { λ r. ⌜ ((f : Face) (v : View) → Wrotes (now (out .entry)) at
+        (each (verifyCard .fieldsOut f v (now (draw .entry)) (now (answers .entry))))
+        (now (out .exit)) r) ⌝ }
 {
-    let a = put_part(out, at, 0x17, draw, 0, 16);
-    put_part(out, a, 0x04, answers, 0, 64)
+    let a = put_part(out, at, tag::SALT, draw, 0, manual::SALT_SIZE);
+    put_card_signature(out, a, answers, 0)
 }
 
 // F4.
-fn tell_validated(face: Front, answers: &[u8], out: &mut [u8], at: usize) -> usize
-    ensures { λ r. ⌜ ((p d : List ℕ) → Told 1200 (now (out .entry)) at (validateCard .fieldsOut (bare face) p d (now (answers .entry))) (now (out .exit)) r) ⌝ }
+fn tell_validated(img: &[u8], answers: &[u8], out: &mut [u8], at: usize) -> usize
+    ensures { λ r. ⌜ ((v : View) (d : List ℕ) → Wrotes (now (out .entry)) at
+        (each (validateCard .fieldsOut (decode (now (img .entry)) .face) v d (now (answers .entry))))
+        (now (out .exit)) r) ⌝ }
 {
-    let a = fields::put_short(out, at, 0x18, face.counters.validations);
-    put_part(out, a, 0x04, answers, 0, 64)
-}
-
-fn put_block(block: &[u8], tag: u8, out: &mut [u8], at: usize) -> usize
-    ensures { λ r. ⌜ (Wrote (now (out .entry)) at (tlv tag (blockOf (blockIn (now (block .entry))))) (now (out .exit)) r) × (length (blockOf (blockIn (now (block .entry)))) ≤ 512) ⌝ }
-{
-    fields::put_field(out, at, tag, image::content(block))
+    let counters = image::counters(img);
+    let a = fields::put_short(out, at, tag::CARD_VALIDATION_COUNTER, counters.validations);
+    put_card_signature(out, a, answers, 0)
 }
 
 // Held data, only if not empty.
-fn tell_held(tag: u8, block: &[u8], out: &mut [u8], at: usize) -> usize
-    ensures { λ r. ⌜ Told 516 (now (out .entry)) at (heldField tag (blockIn (now (block .entry)))) (now (out .exit)) r ⌝ }
+fn tell_held(tag: u8, held: &[u8], out: &mut [u8], at: usize) -> usize
+    ensures { λ r. ⌜ Wrotes (now (out .entry)) at (each (heldField tag (now (held .entry)))) (now (out .exit)) r ⌝ }
 {
-    if image::size(block) == 0 {
+    if held.len() == 0 {
         return at;
     }
-    put_block(block, tag, out, at)
+    fields::put_field(out, at, tag, held)
 }
 
 // E1.
 fn tell_user(img: &[u8], out: &mut [u8], at: usize) -> usize
-    ensures { λ r. ⌜ ((p d a : List ℕ) → Told 1200 (now (out .entry)) at (readUserData .fieldsOut (decode (now (img .entry)) .face) p d a) (now (out .exit)) r) ⌝ }
+    ensures { λ r. ⌜ ((v : View) (d a : List ℕ) → Wrotes (now (out .entry)) at
+        (each (readUserData .fieldsOut (decode (now (img .entry)) .face) v d a))
+        (now (out .exit)) r) ⌝ }
 {
-    let a = tell_held(0x2A, image::user(img), out, at);
-    let b = tell_held(0x2B, image::protected(img), out, a);
+    let a = tell_held(tag::USER_DATA, image::user(img), out, at);
+    let b = tell_held(tag::USER_PROTECTED_DATA, image::protected(img), out, a);
     let counters = image::counters(img);
-    let c = fields::put_number(out, b, 0x2C, counters.user);
-    fields::put_number(out, c, 0x2D, counters.protected)
+    let c = fields::put_number(out, b, tag::USER_COUNTER, counters.user);
+    fields::put_number(out, c, tag::USER_PROTECTED_COUNTER, counters.protected)
 }
 
 // F7: the note and its signature.
 fn tell_note(img: &[u8], out: &mut [u8], at: usize) -> usize
-    ensures { λ r. ⌜ Told 600 (now (out .entry)) at (noteFields (decode (now (img .entry)) .face)) (now (out .exit)) r ⌝ }
+    ensures { λ r. ⌜ Wrotes (now (out .entry)) at (each (noteFields (decode (now (img .entry)) .face))) (now (out .exit)) r ⌝ }
 {
-    let block = image::note(img);
-    if image::size(block) == 0 {
+    let note = image::note(img);
+    if note.len() == 0 {
         return at;
     }
-    let a = put_block(block, 0x32, out, at);
-    let signature = image::signature(img);
-    put_signature(out, a, 0x33, signature)
+    let a = fields::put_field(out, at, tag::ISSUER_DATA, note);
+    fields::put_field(
+        out,
+        a,
+        tag::ISSUER_DATA_SIGNATURE,
+        image::note_signature(img),
+    )
 }
 
 fn tell_issuer(img: &[u8], out: &mut [u8], at: usize) -> usize
-    ensures { λ r. ⌜ ((p d a : List ℕ) → Told 1200 (now (out .entry)) at (readIssuerData .fieldsOut (decode (now (img .entry)) .face) p d a) (now (out .exit)) r) ⌝ }
+    ensures { λ r. ⌜ ((v : View) (d a : List ℕ) → Wrotes (now (out .entry)) at
+        (each (readIssuerData .fieldsOut (decode (now (img .entry)) .face) v d a))
+        (now (out .exit)) r) ⌝ }
 {
     let a = tell_note(img, out, at);
-    let face = image::front(img);
-    if face.flags.replay == 1 {
-        return fields::put_number(out, a, 0x35, face.issuer);
+    let flags = image::flags(img);
+    if flags.replay == 1 {
+        return fields::put_number(out, a, tag::ISSUER_DATA_COUNTER, image::note_counter(img));
     }
     a
 }

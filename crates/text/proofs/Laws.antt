@@ -5,11 +5,12 @@ use native.Mathlib.Numerals.{add-one}
 use native.Mathlib.Decide.{decLt}
 use mathlib.Core.Path.{_≡_, refl, sym, ap, ap₂, _∙_}
 use mathlib.Core.List.{List, [], _∷_, _++_}
-use mathlib.Core.Bool.{Bool, true, false, cond, _&&_, _||_}
+use mathlib.Core.Bool.{Bool, true, false, cond, _&&_}
 use lib.ListN.{length, drop, getD, set, length-append, drop-of-length-le, List·getD-append}
 use lib.Seq.{drop-cons, paste, paste-suc}
 use lib.Dec.{ltb, eqb}
 use borrow.Author.Tests.{lt-ltb, le-ltb, le-leb, lt-leb, ne-eqb}
+use Rattle.wire.proofs.Laws.{or-true}
 use Rattle.wire.proofs.Parts.{Bytes}
 use Rattle.text.specs.Text.{allOf, hexValue, isHexDigit, isHex, pairValue, unhex, hexDigit, hexOf, isDigit, isDigits, decimalFrom, decimal, plainDecimal, digitsOf, decimalOf}
 
@@ -227,11 +228,7 @@ led = by-digits (λ n. 1 ≤ n → Led (decimalOf n)) small more
 
 led-plain : (s : List ℕ) → Led s → plainDecimal s ≡ true
 unfolding plainDecimal
-led-plain s x = rw (x .digits, le-leb _ _ (x .some), ne-eqb _ _ (x .first)) (last (eqb (length s) 1))
-  where
-    last : (b : Bool) → (b || true) ≡ true
-    last true = refl
-    last false = refl
+led-plain s x = rw (x .digits, le-leb _ _ (x .some), ne-eqb _ _ (x .first)) (or-true (eqb (length s) 1))
 
 pub plainDecimal-decimalOf : (n : ℕ) → plainDecimal (decimalOf n) ≡ true
 unfolding plainDecimal allOf isDigit

@@ -5,13 +5,14 @@ use native.Mathlib.Numerals.{add-one}
 use mathlib.Core.Path.{_≡_, refl, sym, ap, _∙_}
 use mathlib.Core.List.{List, [], _∷_, _++_}
 use mathlib.Core.Bool.{Bool, true, false, cond, not}
-use lib.ListN.{length, take, drop, getD, length-append, length-drop, take-append-drop, drop-of-length-le}
+use lib.ListN.{length, take, drop, getD, length-append, length-take, length-drop, take-append-drop, drop-of-length-le}
 use lib.Seq.{length-take-le, drop-cons, take-at, drop-drop, drop-append-add}
 use lib.Dec.{eqb}
 use borrow.Author.Tests.{lt-ltb, ltb-true, eq-eqb, ne-eqb, eqb-true, not-true}
-use Rattle.wire.proofs.Laws.{both-true}
+use Rattle.wire.specs.Wire.{joined}
+use Rattle.wire.proofs.Laws.{by-cases, never, both-true}
 use Rattle.text.specs.Text.{allOf}
-use Rattle.text.specs.Lines.{lengthTo, headTo, tailAfter, nextLine, startOf, fromLine, ended}
+use Rattle.text.specs.Lines.{lengthTo, headTo, tailAfter, nextLine, startOf, fromLine, ended, before, linesOf}
 
 -- THE SCAN for the first b
 module _ (b : ℕ) (s : List ℕ) (i : ℕ) where
@@ -35,6 +36,15 @@ length-to-within b (x ∷ s) = go (eqb x b) (length-to-within b s)
     go : (t : Bool) → lengthTo b s ≤ length s → cond t 0 (suc (lengthTo b s)) ≤ suc (length s)
     go true h = omega arith
     go false h = omega arith
+
+-- what stands before the first b, and what stands after it, is no longer than all
+pub head-small : (b : ℕ) (l : List ℕ) → length (headTo b l) ≤ length l
+unfolding headTo
+head-small b l = simp length-take (omega arith)
+
+pub tail-small : (b : ℕ) (l : List ℕ) → length (tailAfter b l) ≤ length l
+unfolding tailAfter
+tail-small b l = simp length-drop (omega arith)
 
 -- a walk by lines moves on
 pub next-later : (s : List ℕ) (at : ℕ) → at < length s → at < nextLine s at
@@ -61,11 +71,8 @@ unfolding allOf
 all-other p b e [] h = refl
 all-other p b e (x ∷ l) h =
     let h₁ = both-true (p x) (allOf p l) h in
-    let f : eqb x b ≡ false = ne-eqb x b (λ z. absurd (clash (sym e ∙ ap p (sym z) ∙ h₁ .0))) in
+    let f : eqb x b ≡ false = ne-eqb x b (λ z. absurd (never (sym e ∙ ap p (sym z) ∙ h₁ .0))) in
     rw f (all-other p b e l (h₁ .1))
-  where
-    clash : false ≡ true → ⊥
-    clash q = let z : _≡_ {A = ℕ} 0 1 = cc in omega arith
 
 module _ (b : ℕ) where
   pub scan-past : (l t : List ℕ) → allOf (other b) l ≡ true → lengthTo b (l ++ (b ∷ t)) ≡ length l
@@ -137,3 +144,30 @@ next-is-tail k s h e =
     let i : at < length s = omega (arith, ended-within (drop at s) e, length-drop at s) in
     let z : at + n + 1 ≡ at + (n + 1) = omega arith in
     rw (start-next k s h, lt-ltb _ _ i, z) (drop-drop (n + 1) at s)
+
+-- WHAT STANDS AFTER the first c, by the first element
+module _ (c b : ℕ) (l : List ℕ) where
+  pub tail-on : eqb b c ≡ false → tailAfter c (b ∷ l) ≡ tailAfter c l
+  unfolding tailAfter lengthTo
+  tail-on e =
+      let z : suc (lengthTo c l) + 1 ≡ suc (lengthTo c l + 1) = omega arith in
+      rw e (ap (λ (n : ℕ). drop n (b ∷ l)) z)
+
+  pub tail-here : eqb b c ≡ true → tailAfter c (b ∷ l) ≡ l
+  unfolding tailAfter lengthTo
+  tail-here e = rw e
+
+-- ALL LINES of a text, joined, are the text
+before-joins : (b : ℕ) (ls : List (List ℕ)) → joined (before b ls) ≡ b ∷ joined ls
+unfolding before joined
+before-joins b [] = refl
+before-joins b (l ∷ ls) = refl
+
+pub lines-are-text : (s : List ℕ) → joined (linesOf s) ≡ s
+unfolding linesOf joined
+lines-are-text [] = refl
+lines-are-text (b ∷ s) =
+    let e = ap (λ (l : List ℕ). b ∷ l) (lines-are-text s) in
+    by-cases (λ (ls : List (List ℕ)). joined ls ≡ b ∷ s) (eqb b 10) {x = (b ∷ []) ∷ linesOf s} {y = before b (linesOf s)}
+    (λ _. e)
+    (λ _. before-joins b (linesOf s) ∙ e)

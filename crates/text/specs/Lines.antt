@@ -37,3 +37,12 @@ lineOf k s = headTo 10 (fromLine k s)
 -- the line that the text begins with has its line feed
 unfoldable pub ended : List ℕ → Bool
 ended s = ltb (length (headTo 10 s)) (length s)
+
+-- ALL LINES of a text, each with its line feed; the last may have none
+unfoldable pub before : ℕ → List (List ℕ) → List (List ℕ)
+before b [] = (b ∷ []) ∷ []
+before b (l ∷ ls) = (b ∷ l) ∷ ls
+
+unfoldable pub linesOf : List ℕ → List (List ℕ)
+linesOf [] = []
+linesOf (b ∷ s) = cond (eqb b 10) ((b ∷ []) ∷ linesOf s) (before b (linesOf s))

@@ -1,14 +1,14 @@
 -- What the callers of `wire` cite: outcomes of checks, runs of writes, comparison. Assumes nothing.
-use Prim.Native.Nat.{ℕ, zero, suc, _+_, _-_, _≤_, _<_}
+use Prim.Native.Nat.{ℕ, zero, suc, _+_, _-_, _*_, _≤_, _<_}
 use native.Mathlib.Omega.{arith}
 use native.Mathlib.Numerals.{add-one}
 use native.Mathlib.Decide.{ℕ-discrete}
 use native.Mathlib.Nat.{add-zero}
 use mathlib.Core.Path.{_≡_, refl, sym, ap, ap₂, _∙_, subst}
 use mathlib.Core.List.{List, [], _∷_, _++_, append-assoc, append-nil}
-use mathlib.Core.Bool.{Bool, true, false, cond, _&&_}
+use mathlib.Core.Bool.{Bool, true, false, cond, _&&_, _||_}
 use lib.ListN.{length, take, drop, getD, replicate, length-append, length-take, length-drop, length-replicate, take-append-drop, drop-of-length-le}
-use lib.Seq.{take-at, drop-append-add, drop-drop, drop-cons, drop-nil, paste, take-length}
+use lib.Seq.{take-at, drop-append-add, drop-drop, drop-cons, drop-nil, paste, take-length, take-suc, getD-drop}
 use lib.Bits.{bitOr, bitXor, or-add-and, and-le-l, and-le-r, or-zero-l, xor-add-and, xor-self}
 use lib.Dec.{leb, eqb}
 use borrow.Author.Tests.{le-leb, lt-leb, leb-true, leb-false, eq-eqb, ne-eqb, eqb-true}
@@ -34,6 +34,22 @@ failed false p q = refl
 pub both-true : (a b : Bool) → (a && b) ≡ true → (a ≡ true) × (b ≡ true)
 both-true true b e = (refl, e)
 both-true false b e = (e, cc)
+
+-- a choice between two that are the same in each case
+pub either : {A : Type 0} (c : Bool) {a a′ b b′ : A} → (c ≡ true → a ≡ a′) → (c ≡ false → b ≡ b′) → cond c a b ≡ cond c a′ b′
+either true f g = f refl
+either false f g = g refl
+
+pub never : false ≡ true → ⊥
+never q = let z : _≡_ {A = ℕ} 0 1 = cc in omega arith
+
+pub and-false : (b : Bool) → (b && false) ≡ false
+and-false true = refl
+and-false false = refl
+
+pub or-true : (b : Bool) → (b || true) ≡ true
+or-true true = refl
+or-true false = refl
 
 -- WRITES
 pub has-room : (size at n : ℕ) → at + n ≤ size → room size at n ≡ true
@@ -121,7 +137,8 @@ pub wrote-none : {d : List ℕ} {at : ℕ} → Wrotes d at [] d at
 unfolding page
 wrote-none = record { bytes = refl; next = refl }
 
-pub wrote-more : {d : List ℕ} {at : ℕ} {v d′ : List ℕ} {r : ℕ} {vs : List (List ℕ)} {d″ : List ℕ} {r′ : ℕ} → Wrote d at v d′ r → Wrotes d′ r vs d″ r′ → Wrotes d at (v ∷ vs) d″ r′
+pub wrote-more : {d : List ℕ} {at : ℕ} {v d′ : List ℕ} {r : ℕ} {vs : List (List ℕ)} {d″ : List ℕ} {r′ : ℕ} → Wrote d at v d′ r → Wrotes d′ r vs d″ r′
+    → Wrotes d at (v ∷ vs) d″ r′
 unfolding page
 wrote-more {vs = vs} x y =
     record {
@@ -137,7 +154,8 @@ unfolding page
 page-append d at [] ws = refl
 page-append d at (v ∷ vs) ws = page-append (fit d at v) (placed d at v) vs ws
 
-pub wrote-append : {d : List ℕ} {at : ℕ} {vs : List (List ℕ)} {d′ : List ℕ} {r : ℕ} {ws : List (List ℕ)} {d″ : List ℕ} {r′ : ℕ} → Wrotes d at vs d′ r → Wrotes d′ r ws d″ r′ → Wrotes d at (vs ++ ws) d″ r′
+pub wrote-append : {d : List ℕ} {at : ℕ} {vs : List (List ℕ)} {d′ : List ℕ} {r : ℕ} {ws : List (List ℕ)} {d″ : List ℕ} {r′ : ℕ} → Wrotes d at vs d′ r
+    → Wrotes d′ r ws d″ r′ → Wrotes d at (vs ++ ws) d″ r′
 wrote-append {d} {at} {vs} {ws = ws} x y =
     let e = page-append d at vs ws in
     record {
@@ -183,7 +201,8 @@ padded n x h =
     rw (e, z, drop-zeros n (length x) 0)
 
 -- x, then zeros up to n
-pub put-pad : (d : List ℕ) (at n : ℕ) (x : List ℕ) → length x ≤ n → at + n ≤ length d → put (put d at x) (at + length x) (replicate (n - length x) 0) ≡ put d at (pad n x)
+pub put-pad : (d : List ℕ) (at n : ℕ) (x : List ℕ) → length x ≤ n → at + n ≤ length d
+    → put (put d at x) (at + length x) (replicate (n - length x) 0) ≡ put d at (pad n x)
 put-pad d at n x h k =
     let z : List ℕ = replicate (n - length x) 0 in
     let l : length z ≡ n - length x = length-replicate (n - length x) 0 in
@@ -213,18 +232,15 @@ part-plain s at n h =
     rw (le-leb _ _ h₁, le-leb _ _ h₂)
 
 -- COMPARISON
-and-false : (t : Bool) {u : Bool} → u ≡ false → (t && u) ≡ false
-and-false true e = e
-and-false false e = refl
-
 pub other-length : (a b : List ℕ) → (length a ≡ length b → ⊥) → alike a b ≡ false
 unfolding alike
 other-length [] [] h = absurd (h refl)
 other-length [] (y ∷ ys) h = refl
 other-length (x ∷ xs) [] h = refl
-other-length (x ∷ xs) (y ∷ ys) h = and-false (eqb x y) (other-length xs ys (λ e. h (ap suc e)))
+other-length (x ∷ xs) (y ∷ ys) h = rw (other-length xs ys (λ e. h (ap suc e))) (and-false (eqb x y))
 
-pub alike-step : (a b : List ℕ) (i : ℕ) → i < length a → i < length b → alike (drop i a) (drop i b) ≡ eqb (getD a i 0) (getD b i 0) && alike (drop (i + 1) a) (drop (i + 1) b)
+pub alike-step : (a b : List ℕ) (i : ℕ) → i < length a → i < length b
+    → alike (drop i a) (drop i b) ≡ eqb (getD a i 0) (getD b i 0) && alike (drop (i + 1) a) (drop (i + 1) b)
 unfolding alike
 alike-step a b i h k = rw (add-one, drop-cons a i 0 h, drop-cons b i 0 k)
 
@@ -233,9 +249,6 @@ unfolding alike
 alike-end a b i h k = rw (drop-of-length-le a h, drop-of-length-le b k)
 
 -- what is alike is the same
-never : false ≡ true → ⊥
-never q = let z : _≡_ {A = ℕ} 0 1 = cc in omega arith
-
 pub alike-self : (l : List ℕ) → alike l l ≡ true
 unfolding alike
 alike-self [] = refl
@@ -277,6 +290,74 @@ module _ (s : List ℕ) (d i : ℕ) where
   unfolding allZero
   gathered h = rw (drop-of-length-le s h) (and-one (eqb d 0))
 
+-- and of quarters gathered side by side: the first i elements from x on are zero
+abbrev pub cleared : List ℕ → ℕ → ℕ → Bool
+cleared s x i = allZero (take i (drop x s))
+
+zero-append : (a b : List ℕ) → allZero (a ++ b) ≡ (allZero a && allZero b)
+unfolding allZero
+zero-append [] b = refl
+zero-append (x ∷ xs) b = ap (λ e. eqb x 0 && e) (zero-append xs b) ∙ sym (and-assoc (eqb x 0) (allZero xs) (allZero b))
+
+zero-split : (s : List ℕ) (x n m : ℕ) → x + n ≡ m → allZero (drop x s) ≡ (cleared s x n && allZero (drop m s))
+zero-split s x n m e =
+    ap allZero (sym (take-append-drop n (drop x s))) ∙ zero-append (take n (drop x s)) (drop n (drop x s))
+    ∙ ap (λ l. cleared s x n && allZero l) (drop-drop n x s ∙ ap (λ k. drop k s) e)
+
+cleared-more : (s : List ℕ) (x i : ℕ) → x + i < length s → cleared s x (i + 1) ≡ (cleared s x i && eqb (getD s (x + i) 0) 0)
+unfolding allZero
+cleared-more s x i h =
+    let k : i < length (drop x s) = simp length-drop (omega arith) in
+    ap (λ n. cleared s x n) (add-one i) ∙ ap allZero (take-suc (drop x s) i 0 k) ∙ zero-append (take i (drop x s)) (getD (drop x s) i 0 ∷ [])
+    ∙ ap (λ e. cleared s x i && e) (and-one (eqb (getD (drop x s) i 0) 0) ∙ ap (λ y. eqb y 0) (getD-drop x s i 0))
+
+and-four : (p q r t a b c d : Bool) → (p && q && r && t && a && b && c && d) ≡ (p && a && (q && b) && (r && c) && (t && d))
+and-four true true true true a b c d = refl
+and-four false q r t a b c d = refl
+and-four true false r t false b c d = refl
+and-four true false r t true b c d = refl
+and-four true true false t false b c d = refl
+and-four true true false t true false c d = refl
+and-four true true false t true true c d = refl
+and-four true true true false false b c d = refl
+and-four true true true false true false c d = refl
+and-four true true true false true true false d = refl
+and-four true true true false true true true d = refl
+
+module _ (s : List ℕ) (at n : ℕ) where
+  abbrev pub quarters : ℕ → Bool
+  quarters i = cleared s at i && cleared s (at + n) i && cleared s (at + n * 2) i && cleared s (at + n * 3) i
+
+  pub quarters-more : (any i : ℕ) → i < n → at + n * 4 ≤ length s → eqb any 0 ≡ quarters i
+      → eqb (bitOr (bitOr (bitOr (bitOr any (getD s (at + i) 0)) (getD s (at + n + i) 0)) (getD s (at + n * 2 + i) 0)) (getD s (at + n * 3 + i) 0)) 0
+      ≡ quarters (i + 1)
+  quarters-more any i h k e =
+      let x0 = getD s (at + i) 0 in
+      let x1 = getD s (at + n + i) 0 in
+      let x2 = getD s (at + n * 2 + i) 0 in
+      let x3 = getD s (at + n * 3 + i) 0 in
+      let c0 = cleared-more s at i (omega arith) in
+      let c1 = cleared-more s (at + n) i (omega arith) in
+      let c2 = cleared-more s (at + n * 2) i (omega arith) in
+      let c3 = cleared-more s (at + n * 3) i (omega arith) in
+      rw (or-zero (bitOr (bitOr (bitOr any x0) x1) x2) x3, or-zero (bitOr (bitOr any x0) x1) x2, or-zero (bitOr any x0) x1, or-zero any x0, e, c0, c1, c2, c3)
+      (and-four (cleared s at i) (cleared s (at + n) i) (cleared s (at + n * 2) i) (cleared s (at + n * 3) i) (eqb x0 0) (eqb x1 0) (eqb x2 0) (eqb x3 0))
+
+  pub quarters-whole : (any i : ℕ) → i ≡ n → eqb any 0 ≡ quarters i → allZero (drop at s) ≡ (eqb any 0 && allZero (drop (at + n * 4) s))
+  quarters-whole any i z e =
+      zero-split s at n (at + n) refl
+      ∙ ap (λ x. cleared s at n && x) (zero-split s (at + n) n (at + n * 2) (omega arith)
+      ∙ ap (λ x. cleared s (at + n) n && x) (zero-split s (at + n * 2) n (at + n * 3) (omega arith)
+      ∙ ap (λ x. cleared s (at + n * 2) n && x) (zero-split s (at + n * 3) n (at + n * 4) (omega arith))))
+      ∙ gone (cleared s at n) (cleared s (at + n) n) (cleared s (at + n * 2) n) (cleared s (at + n * 3) n) (allZero (drop (at + n * 4) s))
+      ∙ ap (λ x. x && allZero (drop (at + n * 4) s)) (sym (e ∙ ap quarters z))
+    where
+      gone : (a b c d r : Bool) → (a && (b && (c && (d && r)))) ≡ (a && b && c && d && r)
+      gone false b c d r = refl
+      gone true false c d r = refl
+      gone true true false d r = refl
+      gone true true true d r = refl
+
 -- COMPARISON: what differences gathered by `or` tell
 xor-zero : (x y : ℕ) → eqb (bitXor x y) 0 ≡ eqb x y
 xor-zero x y = go (ℕ-discrete x y)
@@ -286,30 +367,35 @@ xor-zero x y = go (ℕ-discrete x y)
     go (no p) = rw (ne-eqb x y p, ne-eqb (bitXor x y) 0 (λ e. p (omega (arith, xor-add-and x y, and-le-l x y, and-le-r x y))))
 
 module _ (a b : List ℕ) (d i : ℕ) where
-  pub differ : i < length a → i < length b → (eqb d 0 && alike (drop i a) (drop i b)) ≡ (eqb (bitOr d (bitXor (getD a i 0) (getD b i 0))) 0 && alike (drop (i + 1) a) (drop (i + 1) b))
+  pub differ : i < length a → i < length b
+      → (eqb d 0 && alike (drop i a) (drop i b)) ≡ (eqb (bitOr d (bitXor (getD a i 0) (getD b i 0))) 0 && alike (drop (i + 1) a) (drop (i + 1) b))
   differ h k =
       let x = bitXor (getD a i 0) (getD b i 0) in
-      rw (alike-step a b i h k, or-zero d x, xor-zero (getD a i 0) (getD b i 0)) (sym (and-assoc (eqb d 0) (eqb (getD a i 0) (getD b i 0)) (alike (drop (i + 1) a) (drop (i + 1) b))))
+      rw (alike-step a b i h k, or-zero d x, xor-zero (getD a i 0) (getD b i 0))
+      (sym (and-assoc (eqb d 0) (eqb (getD a i 0) (getD b i 0)) (alike (drop (i + 1) a) (drop (i + 1) b))))
 
   pub differed : length a ≤ i → length b ≤ i → (eqb d 0 && alike (drop i a) (drop i b)) ≡ eqb d 0
   differed h k = rw (alike-end a b i h k) (and-one (eqb d 0))
 
 -- a run that fills all of d
 pub filled : {d v d′ : List ℕ} {r : ℕ} → Runs d 0 v d′ r → length v ≡ length d → d′ ≡ v
-filled {d} {v} f e = let h : length v ≤ length d = omega arith in let k : length d ≤ length v = omega arith in front f h .0 ∙ rw (drop-of-length-le d k, append-nil v)
+filled {d} {v} f e =
+    let h : length v ≤ length d = omega arith in let k : length d ≤ length v = omega arith in front f h .0 ∙ rw (drop-of-length-le d k, append-nil v)
 
 pub part-small : (s : List ℕ) (at n : ℕ) → length (part s at n) ≤ length s
 unfolding part
 part-small s at n =
     by-cases (λ (l : List ℕ). length l ≤ length s) (leb at (length s)) {x = cond (leb n (length s - at)) (take n (drop at s)) []} {y = []}
-    (λ e. by-cases (λ (l : List ℕ). length l ≤ length s) (leb n (length s - at)) {x = take n (drop at s)} {y = []} (λ f. simp (length-take, length-drop) (omega arith)) (λ f. omega arith))
+    (λ e. by-cases (λ (l : List ℕ). length l ≤ length s) (leb n (length s - at)) {x = take n (drop at s)} {y = []}
+    (λ f. simp (length-take, length-drop) (omega arith)) (λ f. omega arith))
     (λ e. omega arith)
 
 pub part-most : (s : List ℕ) (at n : ℕ) → length (part s at n) ≤ n
 unfolding part
 part-most s at n =
     by-cases (λ (l : List ℕ). length l ≤ n) (leb at (length s)) {x = cond (leb n (length s - at)) (take n (drop at s)) []} {y = []}
-    (λ e. by-cases (λ (l : List ℕ). length l ≤ n) (leb n (length s - at)) {x = take n (drop at s)} {y = []} (λ f. simp length-take (omega arith)) (λ f. omega arith))
+    (λ e. by-cases (λ (l : List ℕ). length l ≤ n) (leb n (length s - at)) {x = take n (drop at s)} {y = []} (λ f. simp length-take (omega arith))
+    (λ f. omega arith))
     (λ e. omega arith)
 
 pub part-none : (s : List ℕ) (at : ℕ) → part s at 0 ≡ []

@@ -8,7 +8,7 @@ use lib.ListN.{length, take, drop, getD, replicate, length-append, length-drop, 
 use lib.Seq.{take-at, drop-at, drop-drop, drop-cons, take-add, take-all, getD-drop}
 use lib.Dec.{lit<, leb}
 use Rattle.wire.specs.Wire.{part, put, fit, room, pad, grab, num16, num32, be1, be2, be4, allZero}
-use Rattle.wire.proofs.Laws.{by-cases, length-put, padded, length-part, part-plain, room-true}
+use Rattle.wire.proofs.Laws.{by-cases, length-put, padded, length-part, part-plain, has-room, room-true}
 
 -- LENGTHS: what is padded has its length, whatever it is padded from
 pub length-pad : (n : ℕ) (x : List ℕ) → length (pad n x) ≡ n
@@ -40,6 +40,13 @@ part-pad n x h =
     let z : List ℕ = replicate (n - length x) 0 in
     let k : 0 + length x ≤ length (x ++ z) = omega (arith, length-append x z) in
     rw (padded n x h) (part-plain (x ++ z) 0 (length x) k ∙ take-at x z (length x) refl)
+
+pub there-and-back : (n : ℕ) (x : List ℕ) → length x ≤ n → part (put (replicate n 0) 0 x) 0 (length x) ≡ x
+unfolding fit
+there-and-back n x h =
+    let l = length-replicate {A = ℕ} n 0 in
+    let r = has-room (length {A = ℕ} (replicate n 0)) 0 (length x) (omega arith) in
+    rw r at (part-pad n x h)
 
 pub drop-pad : (n : ℕ) (x : List ℕ) → length x ≤ n → drop (length x) (pad n x) ≡ replicate (n - length x) 0
 drop-pad n x h = rw (padded n x h) (drop-at x (replicate (n - length x) 0) (length x) refl)
@@ -133,8 +140,19 @@ module _ (l : List ℕ) (n : ℕ) (b : Bytes l) where
       let x1 : num32 l n / 65536 % 256 ≡ getD l (n + 1) 0 = omega arith in
       let x2 : num32 l n / 256 % 256 ≡ getD l (n + 2) 0 = omega arith in
       let x3 : num32 l n % 256 ≡ getD l (n + 3) 0 = omega arith in
-      rw
-      (x0, x1, x2, x3, drop-cons l n 0 (omega arith), drop-cons l (suc n) 0 (omega arith), drop-cons l (suc (suc n)) 0 (omega arith), drop-cons l (suc (suc (suc n))) 0 (omega arith), e1, e2, e3)
+      rw (
+        x0,
+        x1,
+        x2,
+        x3,
+        drop-cons l n 0 (omega arith),
+        drop-cons l (suc n) 0 (omega arith),
+        drop-cons l (suc (suc n)) 0 (omega arith),
+        drop-cons l (suc (suc (suc n))) 0 (omega arith),
+        e1,
+        e2,
+        e3,
+      )
 
 bytes-none : Bytes []
 bytes-none i = lit< tt
@@ -149,5 +167,6 @@ pub bytes-part : (l : List ℕ) (n w : ℕ) → Bytes l → Bytes (part l n w)
 unfolding part
 bytes-part l n w b =
     by-cases Bytes (leb n (length l)) {x = cond (leb w (length l - n)) (take w (drop n l)) []} {y = []}
-    (λ e. by-cases Bytes (leb w (length l - n)) {x = take w (drop n l)} {y = []} (λ f. bytes-take w (drop n l) (λ j. rw getD-drop (b (n + j)))) (λ f. bytes-none))
+    (λ e. by-cases Bytes (leb w (length l - n)) {x = take w (drop n l)} {y = []} (λ f. bytes-take w (drop n l) (λ j. rw getD-drop (b (n + j))))
+    (λ f. bytes-none))
     (λ e. bytes-none)

@@ -13,5 +13,6 @@ pub one-write : {d : List ℕ} {at : ℕ} {v d′ : List ℕ} {r : ℕ} {d″ : 
 one-write x y = (one-result (x .bytes) (y .bytes), one-result (x .next) (y .next))
 
 -- and after several
-pub one-page : {d : List ℕ} {at : ℕ} {vs : List (List ℕ)} {d′ : List ℕ} {r : ℕ} {d″ : List ℕ} {r′ : ℕ} → Wrotes d at vs d′ r → Wrotes d at vs d″ r′ → (d′ ≡ d″) × (r ≡ r′)
+pub one-page : {d : List ℕ} {at : ℕ} {vs : List (List ℕ)} {d′ : List ℕ} {r : ℕ} {d″ : List ℕ} {r′ : ℕ} → Wrotes d at vs d′ r → Wrotes d at vs d″ r′
+    → (d′ ≡ d″) × (r ≡ r′)
 one-page x y = (one-result (x .bytes) (y .bytes), one-result (x .next) (y .next))

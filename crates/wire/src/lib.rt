@@ -1,7 +1,8 @@
 // Bytes: reads and writes on slices, all total. A write without room changes nothing.
 ghost use mathlib.Core.Path.{_≡_};
 ghost use mathlib.Core.Bool.{_&&_, _||_, not};
-ghost use Prim.Native.Nat.{_+_, _≤_, _<_};
+ghost use Prim.Native.Nat.{_+_, _*_, _≤_, _<_};
+ghost use lib.Dec.{eqb};
 ghost use lib.ListN.{length, getD, drop, replicate};
 ghost use Rattle.wire.specs.Wire.{verdict, part, put, room, Wrote, pad, grab, num16, num32, be1, be2, be4, alike, allZero};
 
@@ -91,7 +92,10 @@ pub fn rest(s: &[u8], at: usize) -> &[u8]
     if at <= s.len() { &s[at..] } else { &s[..0] }
 }
 
-fn copy(out: &mut [u8], at: usize, v: &[u8]) -> usize
+// The most bytes that are moved at once: more than an image has.
+const SPAN: usize = 4096;
+
+fn copy_each(out: &mut [u8], at: usize, v: &[u8]) -> usize
     requires { ⌜ at + length (now v) ≤ length (now out) ⌝ }
     ensures { λ r. ⌜ (now (out .exit) ≡ put (now (out .entry)) at (now (v .entry))) × (r ≡ at + length (now (v .entry))) ⌝ }
 {
@@ -101,6 +105,20 @@ fn copy(out: &mut [u8], at: usize, v: &[u8]) -> usize
         i += 1;
     }
     at + i
+}
+
+// Bytes that go by way of an array of its own. The compiler leaves the array out again, but knows by it that the two slices do not
+// overlap, and so moves all bytes at once.
+fn copy(out: &mut [u8], at: usize, v: &[u8]) -> usize
+    requires { ⌜ at + length (now v) ≤ length (now out) ⌝ }
+    ensures { λ r. ⌜ (now (out .exit) ≡ put (now (out .entry)) at (now (v .entry))) × (r ≡ at + length (now (v .entry))) ⌝ }
+{
+    if v.len() <= SPAN {
+        let mut held = [0u8; SPAN];
+        copy_each(&mut held, 0, v);
+        return copy_each(out, at, part(&held, 0, v.len()));
+    }
+    copy_each(out, at, v)
 }
 
 pub fn has_room(size: usize, at: usize, n: usize) -> bool
@@ -197,13 +215,31 @@ pub fn equal(a: &[u8], b: &[u8]) -> bool
     any == 0
 }
 
-// Whether every byte of s from `at` on is zero: unused room. The bytes are gathered and looked at once, at the end, so that the
-// compiler can take many of them at a time: an image is mostly unused room.
+// All the 4 * n bytes from `at` on in one: the four quarters side by side, of which the compiler can take many bytes at a time.
+fn quarters(s: &[u8], at: usize, n: usize) -> u8
+    requires { ⌜ at + n * 4 ≤ length (now s) ⌝ }
+    ensures { λ r. ⌜ allZero (drop at (now (s .entry))) ≡ (eqb r 0 && allZero (drop (at + n * 4) (now (s .entry)))) ⌝ }
+{
+    let mut any: u8 = 0;
+    let mut i = 0;
+    while i < n {
+        any = any | s[at + i] | s[at + n + i] | s[at + n * 2 + i] | s[at + n * 3 + i];
+        i += 1;
+    }
+    any
+}
+
+// Whether every byte of s from `at` on is zero: unused room. The bytes are gathered and looked at once, at the end: an image is mostly
+// unused room. Quarters are whole runs of what the compiler takes at a time; what is left over comes one by one.
 pub fn zero_from(s: &[u8], at: usize) -> bool
     ensures { λ r. ⌜ r ≡ allZero (drop at (now (s .entry))) ⌝ }
 {
-    let mut any: u8 = 0;
-    let mut i = at;
+    if s.len() <= at {
+        return true;
+    }
+    let n = (s.len() - at) / 128 * 32;
+    let mut any = quarters(s, at, n);
+    let mut i = at + n * 4;
     while i < s.len() {
         any = any | s[i];
         i += 1;
@@ -211,13 +247,7 @@ pub fn zero_from(s: &[u8], at: usize) -> bool
     any == 0
 }
 
-// Arrays by value: read, padded and written, for each length.
-
-pub fn take3(s: &[u8], at: usize) -> [u8; 3]
-    ensures { λ r. ⌜ (r ≡ grab 3 at (now (s .entry))) × (length r ≡ 3) ⌝ }
-{
-    pad3(part(s, at, 3))
-}
+// Arrays by value: read, padded and written, for the lengths that callers have.
 
 pub fn pad3(x: &[u8]) -> [u8; 3]
     ensures { λ r. ⌜ (r ≡ pad 3 (now (x .entry))) × (length r ≡ 3) ⌝ }
@@ -233,20 +263,6 @@ pub fn give3(out: &mut [u8], at: usize, a: [u8; 3]) -> usize
     put_bytes(out, at, &a)
 }
 
-pub fn take8(s: &[u8], at: usize) -> [u8; 8]
-    ensures { λ r. ⌜ (r ≡ grab 8 at (now (s .entry))) × (length r ≡ 8) ⌝ }
-{
-    pad8(part(s, at, 8))
-}
-
-pub fn pad8(x: &[u8]) -> [u8; 8]
-    ensures { λ r. ⌜ (r ≡ pad 8 (now (x .entry))) × (length r ≡ 8) ⌝ }
-{
-    let mut a = [0u8; 8];
-    put_bytes(&mut a, 0, x);
-    a
-}
-
 pub fn give8(out: &mut [u8], at: usize, a: [u8; 8]) -> usize
     ensures { λ r. ⌜ (Wrote (now (out .entry)) at a (now (out .exit)) r) × (length a ≡ 8) ⌝ }
 {
@@ -256,14 +272,8 @@ pub fn give8(out: &mut [u8], at: usize, a: [u8; 8]) -> usize
 pub fn take32(s: &[u8], at: usize) -> [u8; 32]
     ensures { λ r. ⌜ (r ≡ grab 32 at (now (s .entry))) × (length r ≡ 32) ⌝ }
 {
-    pad32(part(s, at, 32))
-}
-
-pub fn pad32(x: &[u8]) -> [u8; 32]
-    ensures { λ r. ⌜ (r ≡ pad 32 (now (x .entry))) × (length r ≡ 32) ⌝ }
-{
     let mut a = [0u8; 32];
-    put_bytes(&mut a, 0, x);
+    put_bytes(&mut a, 0, part(s, at, 32));
     a
 }
 
@@ -273,38 +283,10 @@ pub fn give32(out: &mut [u8], at: usize, a: [u8; 32]) -> usize
     put_bytes(out, at, &a)
 }
 
-pub fn take64(s: &[u8], at: usize) -> [u8; 64]
-    ensures { λ r. ⌜ (r ≡ grab 64 at (now (s .entry))) × (length r ≡ 64) ⌝ }
-{
-    pad64(part(s, at, 64))
-}
-
-pub fn pad64(x: &[u8]) -> [u8; 64]
-    ensures { λ r. ⌜ (r ≡ pad 64 (now (x .entry))) × (length r ≡ 64) ⌝ }
-{
-    let mut a = [0u8; 64];
-    put_bytes(&mut a, 0, x);
-    a
-}
-
 pub fn give64(out: &mut [u8], at: usize, a: [u8; 64]) -> usize
     ensures { λ r. ⌜ (Wrote (now (out .entry)) at a (now (out .exit)) r) × (length a ≡ 64) ⌝ }
 {
     put_bytes(out, at, &a)
-}
-
-pub fn take65(s: &[u8], at: usize) -> [u8; 65]
-    ensures { λ r. ⌜ (r ≡ grab 65 at (now (s .entry))) × (length r ≡ 65) ⌝ }
-{
-    pad65(part(s, at, 65))
-}
-
-pub fn pad65(x: &[u8]) -> [u8; 65]
-    ensures { λ r. ⌜ (r ≡ pad 65 (now (x .entry))) × (length r ≡ 65) ⌝ }
-{
-    let mut a = [0u8; 65];
-    put_bytes(&mut a, 0, x);
-    a
 }
 
 pub fn give65(out: &mut [u8], at: usize, a: [u8; 65]) -> usize

@@ -1,8 +1,6 @@
 use Rattle.manual.specs.Wallet.{readCard, createWallet, setPin, sign, purgeWallet}
 use Rattle.manual.specs.Checking.{checkWallet, verifyCard, validateCard}
 use Rattle.manual.specs.Storage.{readUserData, writeUserData, writeIssuerData, readIssuerData}
-use denote.Ref.{now}
-use Rattle.card.specs.Image.{decode}
 use borrow.Author.Needs.{needs}
 use Rattle.changes.proofs.alter.Statement.{statement}
 use Rattle.changes.proofs.alter.Tie as tie
@@ -76,14 +74,20 @@ same-length c = search needs
 
 returns-2 : tie.Need-returns-2
 unfolding createWallet
-returns-2 c = rw (c .before .before .before .before .enum-told2 .given .1) (c .before .before .created .ensures)
+returns-2 c =
+    let c1 = c .before .before in
+    let c2 = c1 .before .before in
+    rw (c2 .enum-told2 .given .1) (c1 .created .ensures)
 
 same-length-2 : tie.Need-same-length-2
 same-length-2 c = search needs
 
 returns-3 : tie.Need-returns-3
 unfolding checkWallet
-returns-3 c = rw (c .before .before .before .before .enum-told3 .given .1) (c .before .before .checked .ensures)
+returns-3 c =
+    let c1 = c .before .before in
+    let c2 = c1 .before .before in
+    rw (c2 .enum-told3 .given .1) (c1 .checked .ensures)
 
 same-length-3 : tie.Need-same-length-3
 same-length-3 c = search needs
@@ -91,16 +95,19 @@ same-length-3 c = search needs
 returns-4 : tie.Need-returns-4
 unfolding setPin
 returns-4 c =
-    let w = c .before .before in
-    let x = w .before .before .before .before .before .before .before .before .args in
-    rw (w .before .before .enum-told4 .given .1) (w .recoded .ensures (decode (now (x .img))))
+    let c1 = c .before .before in
+    let c2 = c1 .before .before in
+    rw (c2 .enum-told4 .given .1) (c1 .recoded .ensures _)
 
 same-length-4 : tie.Need-same-length-4
 same-length-4 c = search needs
 
 returns-5 : tie.Need-returns-5
 unfolding sign
-returns-5 c = rw (c .before .before .before .before .enum-told5 .given .1) (c .before .before .signed .ensures)
+returns-5 c =
+    let c1 = c .before .before in
+    let c2 = c1 .before .before in
+    rw (c2 .enum-told5 .given .1) (c1 .signed .ensures)
 
 returns-6 : tie.Need-returns-6
 unfolding verifyCard
@@ -111,14 +118,20 @@ same-length-5 c = search needs
 
 returns-7 : tie.Need-returns-7
 unfolding validateCard
-returns-7 c = rw (c .before .before .before .before .enum-told7 .given .1) (c .before .before .validated .ensures)
+returns-7 c =
+    let c1 = c .before .before in
+    let c2 = c1 .before .before in
+    rw (c2 .enum-told7 .given .1) (c1 .validated .ensures)
 
 same-length-6 : tie.Need-same-length-6
 same-length-6 c = search needs
 
 returns-8 : tie.Need-returns-8
 unfolding purgeWallet
-returns-8 c = rw (c .before .before .before .before .enum-told8 .given .1) (c .before .before .purged .ensures)
+returns-8 c =
+    let c1 = c .before .before in
+    let c2 = c1 .before .before in
+    rw (c2 .enum-told8 .given .1) (c1 .purged .ensures)
 
 returns-9 : tie.Need-returns-9
 unfolding readUserData
@@ -129,14 +142,20 @@ same-length-7 c = search needs
 
 returns-10 : tie.Need-returns-10
 unfolding writeUserData
-returns-10 c = rw (c .before .before .before .before .enum-told10 .given .1) (c .before .before .stored .ensures)
+returns-10 c =
+    let c1 = c .before .before in
+    let c2 = c1 .before .before in
+    rw (c2 .enum-told10 .given .1) (c1 .stored .ensures)
 
 same-length-8 : tie.Need-same-length-8
 same-length-8 c = search needs
 
 returns-11 : tie.Need-returns-11
 unfolding writeIssuerData
-returns-11 c = rw (c .before .before .before .before .enum-told11 .given .1) (c .before .before .noted .ensures)
+returns-11 c =
+    let c1 = c .before .before in
+    let c2 = c1 .before .before in
+    rw (c2 .enum-told11 .given .1) (c1 .noted .ensures)
 
 returns-12 : tie.Need-returns-12
 unfolding readIssuerData

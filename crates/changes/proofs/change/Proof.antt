@@ -5,14 +5,16 @@ use mathlib.Core.List.{_++_}
 use denote.Ref.{now}
 use lib.ListN.{length, drop}
 use borrow.Author.Tests.{eq-eqb, ne-eqb}
-use borrow.Author.Needs.{needs}
 use Rattle.wire.proofs.Laws.{runs, front, refused, room-true, room-false}
 use Rattle.fields.proofs.Laws.{empty-wrote}
+use Rattle.sent.specs.Sent.{viewBy}
+use Rattle.card.specs.Layout.{imageSize}
 use Rattle.card.specs.Image.{encode, decode}
-use Rattle.image.proofs.Shape.{length-encode}
-use Rattle.image.proofs.Round.{encode-decode, shape-decode}
+use Rattle.cards.proofs.Shape.{length-encode}
+use Rattle.cards.proofs.Round.{encode-decode, shape-decode}
 use Rattle.changes.specs.Carried.{carriedCard, carriedImage}
 use Rattle.changes.proofs.Laws.{fronted, carried-shape}
+use borrow.Author.Needs.{needs}
 use Rattle.changes.proofs.change.Statement.{statement}
 use Rattle.changes.proofs.change.Tie as tie
 
@@ -35,34 +37,37 @@ same-length c = search needs
 returns-2 : tie.Need-returns-2
 unfolding carriedImage
 returns-2 c =
-    let a = c .before .before in
-    let w = a .before .before .before .before in
-    let i = w .before .before in
-    let s = i .before .before in
-    let k = s .before .before .before .before in
-    let x = k .before .args in
-    let m = now (x .img) in
-    let d = now (x .next) in
-    let l : length m ≡ 2429 = s .if1 .left in
-    let h = room-true (length d) 0 2429 (sym (i .before .has-room .ensures) ∙ i .if2 .taken) in
-    let z : length m ≤ length d = omega arith in
-    let t = carriedCard (x .cmd) (decode m) (now (x .p)) (now (x .answers)) in
-    let n = length-encode t (carried-shape (x .cmd) m (now (x .p)) (now (x .answers))) in
-    let e = front (runs (w .put-bytes .ensures)) z .0 ∙ ap₂ (λ v j. v ++ drop j d) (sym (encode-decode m l (λ j. omega (arith, k .shared-slice-known .given j)))) l in
-    let f = a .alter .ensures (drop 2429 d) (record { shape = shape-decode m; bytes = e }) .bytes in
-    rw (eq-eqb _ _ l) (fronted d (encode t) 2429 n (omega arith) f)
+    let c1 = c .before .before in
+    let c2 = c1 .before .before .before .before in
+    let c3 = c2 .before .before in
+    let c4 = c3 .before in
+    let c5 = c4 .before in
+    let c6 = c5 .before .before .before .before in
+    let c7 = c6 .before in
+    let m = now (c7 .args .img) in
+    let d = now (c7 .args .next) in
+    let l : length m ≡ imageSize = c5 .if1 .left in
+    let h = room-true (length d) 0 imageSize (sym (c4 .has-room .ensures) ∙ c3 .if2 .taken) in
+    let k : length m ≤ length d = omega arith in
+    let b = encode-decode m l (λ j. omega (arith, c6 .shared-slice-known .given j)) in
+    let e = front (runs (c2 .put-bytes .ensures)) k .0 ∙ ap₂ (λ v j. v ++ drop j d) (sym b) l in
+    let t = c1 .alter .ensures (drop imageSize d) (record { shape = shape-decode m l; bytes = e }) in
+    rw (eq-eqb _ _ l) (fronted d _ imageSize (length-encode _ (t .shape)) (omega arith) (t .bytes))
 
 returns-3 : tie.Need-returns-3
 unfolding carriedImage
 returns-3 c =
-    let s = c .before .before in
-    let x = s .before .before .before .before .before .args in
+    let c1 = c .before in
+    let c2 = c1 .before in
+    let c3 = c2 .before .before .before .before .before in
+    let x = c3 .args in
     let m = now (x .img) in
     let d = now (x .next) in
-    let l : length m ≡ 2429 = s .if1 .left in
-    let h = room-false (length d) 0 2429 (sym (c .before .has-room .ensures) ∙ c .if2 .left) in
-    let t = carriedCard (x .cmd) (decode m) (now (x .p)) (now (x .answers)) in
-    let n = length-encode t (carried-shape (x .cmd) m (now (x .p)) (now (x .answers))) in
+    let v = viewBy (now (x .p)) (now (x .places)) in
+    let l : length m ≡ imageSize = c2 .if1 .left in
+    let h = room-false (length d) 0 imageSize (sym (c1 .has-room .ensures) ∙ c .if2 .left) in
+    let t = carriedCard (x .cmd) (decode m) v (now (x .answers)) in
+    let n = length-encode t (carried-shape (x .cmd) m l v (now (x .answers))) in
     let y : length d < 0 + length (encode t) = omega arith in
     rw (eq-eqb _ _ l) (refused y)
 

@@ -1,9 +1,4 @@
-use mathlib.Core.Path.{ap, _∙_}
-use denote.Ref.{now}
-use Rattle.card.specs.Image.{decode}
-use Rattle.card.specs.Values.{faced, checkedOnce, withCounters}
-use Rattle.image.proofs.Renewed.{anew-counters}
-use Rattle.changes.proofs.Laws.{said-as}
+use Rattle.writing.proofs.Renewed.{anew-counters}
 use borrow.Author.Needs.{needs}
 use Rattle.changes.proofs.checked.Statement.{statement}
 use Rattle.changes.proofs.checked.Tie as tie
@@ -21,13 +16,12 @@ same-length : tie.Need-same-length
 same-length c = search needs
 
 returns : tie.Need-returns
-returns c = λ rest h.
-    let k = c .before .before in
-    let r = k .before in
-    let g = r .before .before in
-    let t = decode (now (g .before .before .before .args .img)) in
-    let e = r .checked .ensures ∙ ap checkedOnce (g .counters .ensures) in
-    said-as (λ i. faced (withCounters (e i) (t .face)) t) (anew-counters (r .checked .result) (k .counters2 .ensures) h)
+returns c =
+    let c1 = c .before .before in
+    let c2 = c1 .before in
+    let c3 = c2 .before .before in
+    λ rest h. anew-counters _ (rw (c2 .checked .ensures, c3 .counters .ensures) at (c1 .counters2 .ensures)) h
 
 pub checked-spec : {M : Type 1} → statement M
-checked-spec = tie.close (tie.spec counters-requires checked-requires counters-requires-2 same-length returns)
+checked-spec =
+    tie.close (tie.spec counters-requires checked-requires counters-requires-2 same-length returns)

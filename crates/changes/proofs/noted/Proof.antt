@@ -1,16 +1,7 @@
-use mathlib.Core.Path.{ap, _∙_}
-use denote.Ref.{now}
-use Rattle.card.specs.Image.{decode}
-use Rattle.card.specs.Values.{faced, bare, heldIssuer, withIssuer}
-use Rattle.manual.specs.Storage.{keptCounter}
-use Rattle.image.proofs.Renewed.{anew-issuer}
-use Rattle.changes.proofs.Laws.{said-as}
+use Rattle.writing.proofs.Renewed.{anew-issuer}
 use borrow.Author.Needs.{needs}
 use Rattle.changes.proofs.noted.Statement.{statement}
 use Rattle.changes.proofs.noted.Tie as tie
-
-front-requires : tie.Need-front-requires
-front-requires c κs = tt
 
 kept-counter-requires : tie.Need-kept-counter-requires
 kept-counter-requires c κs = tt
@@ -28,16 +19,20 @@ same-length : tie.Need-same-length
 same-length c = search needs
 
 returns : tie.Need-returns
-returns c = λ rest h.
-    let k = c .before .before in
-    let s = k .before in
-    let v = s .before in
-    let n = v .before .before in
-    let f = n .before in
-    let x = f .before .before .before .before .args in
-    let t = decode (now (x .img)) in
-    let e = n .kept-counter .ensures ∙ ap (λ z. keptCounter (bare z) (now (x .p))) (f .front .ensures) in
-    said-as (λ i. faced (withIssuer (heldIssuer (v .value .ensures i) (s .value2 .ensures i) (e i)) (t .face)) t) (anew-issuer _ _ _ (k .issuer .ensures) h)
+returns c =
+    let c1 = c .before .before in
+    let c2 = c1 .before in
+    let c3 = c2 .before in
+    let c4 = c3 .before .before in
+    λ rest h. anew-issuer _ _ _ (rw (c3 .value .ensures, c2 .value2 .ensures, c4 .kept-counter .ensures) at (c1 .issuer .ensures)) h
 
 pub noted-spec : {M : Type 1} → statement M
-noted-spec = tie.close (tie.spec front-requires kept-counter-requires value-requires value-requires-2 issuer-requires same-length returns)
+noted-spec =
+    tie.close
+    (tie.spec
+    kept-counter-requires
+    value-requires
+    value-requires-2
+    issuer-requires
+    same-length
+    returns)

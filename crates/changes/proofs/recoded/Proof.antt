@@ -1,6 +1,4 @@
-use Rattle.wire.specs.Wire.{pad}
-use Rattle.image.proofs.Renewed.{anew-codes}
-use Rattle.changes.proofs.Laws.{said-as}
+use Rattle.writing.proofs.Renewed.{anew-codes}
 use borrow.Author.Needs.{needs}
 use Rattle.changes.proofs.recoded.Statement.{statement}
 use Rattle.changes.proofs.recoded.Tie as tie
@@ -18,10 +16,12 @@ same-length : tie.Need-same-length
 same-length c = search needs
 
 returns : tie.Need-returns
-returns c = λ t rest h.
-    let k = c .before .before in
-    let v = k .before in
-    said-as (λ i. record { face = t .face; codes = record { pin1 = pad 32 (v .before .value .ensures i); pin2 = pad 32 (v .value2 .ensures i) } }) (anew-codes _ _ (k .codes .ensures) h)
+returns c =
+    let c1 = c .before .before in
+    let c2 = c1 .before in
+    let c3 = c2 .before in
+    λ t rest h. anew-codes _ _ (rw (c3 .value .ensures, c2 .value2 .ensures) at (c1 .codes .ensures)) h
 
 pub recoded-spec : {M : Type 1} → statement M
-recoded-spec = tie.close (tie.spec value-requires value-requires-2 codes-requires same-length returns)
+recoded-spec =
+    tie.close (tie.spec value-requires value-requires-2 codes-requires same-length returns)

@@ -1,11 +1,6 @@
 use mathlib.Core.Path.{sym, _∙_}
-use denote.Ref.{now}
-use Rattle.card.specs.Image.{decode}
-use Prim.Native.Nat.{_/_}
-use Rattle.card.specs.Values.{faced}
-use Rattle.manual.specs.Wallet.{signedFace}
+use Rattle.manual.specs.Wallet.{sign}
 use Rattle.request.proofs.Laws.{asks-new, asks-again}
-use Rattle.changes.proofs.Laws.{said-as}
 use borrow.Author.Needs.{needs}
 use Rattle.changes.proofs.signed.Statement.{statement}
 use Rattle.changes.proofs.signed.Tie as tie
@@ -20,10 +15,10 @@ enum-told : tie.Need-enum-told
 enum-told c = search needs
 
 returns : tie.Need-returns
-returns c = λ rest h.
-    let g = c .before .before in
-    let p = now (g .before .before .before .before .before .args .p) in
-    rw (asks-again p (sym (g .signing .ensures) ∙ c .enum-told .given .1)) h
+unfolding sign
+returns c =
+    let c1 = c .before .before in
+    λ rest h. rw (asks-again _ (sym (c1 .signing .ensures) ∙ c .enum-told .given .1)) h
 
 signed-anew-requires : tie.Need-signed-anew-requires
 signed-anew-requires c κs = tt
@@ -32,14 +27,22 @@ same-length : tie.Need-same-length
 same-length c = search needs
 
 returns-2 : tie.Need-returns-2
-returns-2 c = λ rest h.
-    let w = c .before .before in
-    let n = w .before .before .before in
-    let g = n .before .before in
-    let x = g .before .before .before .before .before .args in
-    let t = decode (now (x .img)) in
-    let e = asks-new (now (x .p)) (sym (g .signing .ensures) ∙ n .n .given .1) in
-    rw (e .0) (said-as (λ i. faced (signedFace (t .face) (e .1 i / 32) (now (x .answers))) t) (w .signed-anew .ensures rest h))
+unfolding sign
+returns-2 c =
+    let c1 = c .before .before in
+    let c2 = c1 .before .before .before in
+    let c3 = c2 .before .before in
+    let e = asks-new _ (sym (c3 .signing .ensures) ∙ c2 .n .given .1) in
+    λ rest h. rw (e .0) (rw (e .1) at (c1 .signed-anew .ensures rest h))
 
 pub signed-spec : {M : Type 1} → statement M
-signed-spec = tie.close (tie.spec signing-requires enum-known-n enum-told returns signed-anew-requires same-length returns-2)
+signed-spec =
+    tie.close
+    (tie.spec
+    signing-requires
+    enum-known-n
+    enum-told
+    returns
+    signed-anew-requires
+    same-length
+    returns-2)

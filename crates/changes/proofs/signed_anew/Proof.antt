@@ -1,10 +1,5 @@
-use mathlib.Core.Path.{ap, _∙_}
-use denote.Ref.{now}
-use Rattle.card.specs.Image.{decode}
-use Rattle.card.specs.Values.{faced, spent, risen, heldLast, withLast, withCounters, withWallet}
-use Rattle.image.proofs.Renewed.{anew-wallet, anew-counters, anew-last}
-use Prim.Native.Nat.{_%_}
-use Rattle.changes.proofs.Laws.{said-as, spent-kept}
+use Rattle.writing.proofs.Renewed.{anew-wallet, anew-counters, anew-last}
+use Rattle.changes.proofs.Laws.{kept-once}
 use borrow.Author.Needs.{needs}
 use Rattle.changes.proofs.signed_anew.Statement.{statement}
 use Rattle.changes.proofs.signed_anew.Tie as tie
@@ -37,20 +32,29 @@ same-length : tie.Need-same-length
 same-length c = search needs
 
 returns : tie.Need-returns
-returns c = λ rest h.
-    let l = c .before .before in
-    let k = l .before .before .before .before in
-    let r = k .before in
-    let g = r .before .before in
-    let w = g .before .before .before in
-    let s = w .before in
-    let v = s .before .before in
-    let x = v .before .before .before .before .args in
-    let t = decode (now (x .img)) in
-    let e = s .sign .ensures ∙ ap (spent (x .n % 4294967296)) (v .wallet .ensures) ∙ spent-kept (x .n) (t .face .wallet) in
-    let n = r .signed .ensures ∙ ap risen (g .counters .ensures) in
-    said-as (λ i. faced (withLast (heldLast (now (x .answers))) (withCounters (n i) (withWallet (e i) (t .face)))) t)
-    (anew-last (now (x .answers)) (l .last .ensures) (anew-counters (r .signed .result) (k .counters2 .ensures) (anew-wallet (s .sign .result) (w .wallet2 .ensures) h)))
+returns c =
+    let c1 = c .before .before in
+    let c2 = c1 .before .before .before .before in
+    let c3 = c2 .before in
+    let c4 = c3 .before .before in
+    let c5 = c4 .before .before .before in
+    let c6 = c5 .before in
+    let c7 = c6 .before .before in
+    λ rest h.
+    anew-last _ (c1 .last .ensures) (anew-counters _ (rw (c3 .signed .ensures, c4 .counters .ensures) at (c2 .counters2 .ensures))
+    (anew-wallet _ (rw (c6 .sign .ensures, c7 .wallet .ensures, kept-once) at (c5 .wallet2 .ensures)) h))
 
 pub signed-anew-spec : {M : Type 1} → statement M
-signed-anew-spec = tie.close (tie.spec cast-hashes wallet-requires sign-requires wallet-requires-2 counters-requires signed-requires counters-requires-2 last-requires same-length returns)
+signed-anew-spec =
+    tie.close
+    (tie.spec
+    cast-hashes
+    wallet-requires
+    sign-requires
+    wallet-requires-2
+    counters-requires
+    signed-requires
+    counters-requires-2
+    last-requires
+    same-length
+    returns)

@@ -1,7 +1,5 @@
 use mathlib.Core.Path.{sym, _∙_}
-use Rattle.card.specs.Values.{faced, heldBlock, withProtected}
-use Rattle.image.proofs.Renewed.{anew-protected}
-use Rattle.changes.proofs.Laws.{said-as}
+use Rattle.writing.proofs.Renewed.{anew-protected}
 use borrow.Author.Needs.{needs}
 use Rattle.changes.proofs.stored_protected.Statement.{statement}
 use Rattle.changes.proofs.stored_protected.Tie as tie
@@ -19,14 +17,19 @@ same-length : tie.Need-same-length
 same-length c = search needs
 
 returns : tie.Need-returns
-returns c = λ t rest h.
-    let k = c .before .before in
-    let v = k .before in
-    let i = v .before .before in
-    rw (sym (i .before .has .ensures) ∙ i .if1 .taken) (said-as (λ i. faced (withProtected (heldBlock (v .value .ensures i)) (t .face)) t) (anew-protected _ (k .protected .ensures) h))
+returns c =
+    let c1 = c .before .before in
+    let c2 = c1 .before in
+    let c3 = c2 .before .before in
+    let c4 = c3 .before in
+    λ t rest h. rw (sym (c4 .has .ensures) ∙ c3 .if1 .taken) (anew-protected _ (rw (c2 .value .ensures) at (c1 .protected .ensures)) h)
 
 returns-2 : tie.Need-returns-2
-returns-2 c = λ t rest h. rw (sym (c .before .has .ensures) ∙ c .if1 .left) h
+returns-2 c =
+    let c1 = c .before in
+    λ t rest h. rw (sym (c1 .has .ensures) ∙ c .if1 .left) h
 
 pub stored-protected-spec : {M : Type 1} → statement M
-stored-protected-spec = tie.close (tie.spec has-requires value-requires protected-requires same-length returns returns-2)
+stored-protected-spec =
+    tie.close
+    (tie.spec has-requires value-requires protected-requires same-length returns returns-2)

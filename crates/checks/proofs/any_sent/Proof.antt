@@ -23,7 +23,15 @@ either-requires-3 : tie.Need-either-requires-3
 either-requires-3 c κs = tt
 
 returns : tie.Need-returns
-returns c = rw (c .before .either2 .ensures, c .before .before .has4 .ensures, c .before .before .before .has3 .ensures, c .before .before .before .before .either .ensures, c .before .before .before .before .before .has2 .ensures, c .before .before .before .before .before .before .has .ensures) at (c .either3 .ensures)
+returns c =
+    rw (
+      c .before .either2 .ensures,
+      c .before .before .has4 .ensures,
+      c .before .before .before .has3 .ensures,
+      c .before .before .before .before .either .ensures,
+      c .before .before .before .before .before .has2 .ensures,
+      c .before .before .before .before .before .before .has .ensures,
+    ) at (c .either3 .ensures)
 
 pub any-sent-spec : {M : Type 1} → statement M
 any-sent-spec =

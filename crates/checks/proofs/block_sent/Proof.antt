@@ -17,7 +17,13 @@ either-requires : tie.Need-either-requires
 either-requires c κs = tt
 
 returns : tie.Need-returns
-returns c = rw (c .before .is-data .ensures, c .before .before .value .ensures, c .before .before .before .unless .ensures, c .before .before .before .before .has .ensures) at (c .either .ensures)
+returns c =
+    rw (
+      c .before .is-data .ensures,
+      c .before .before .value .ensures,
+      c .before .before .before .unless .ensures,
+      c .before .before .before .before .has .ensures,
+    ) at (c .either .ensures)
 
 pub block-sent-spec : {M : Type 1} → statement M
 block-sent-spec =

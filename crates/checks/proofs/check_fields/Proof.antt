@@ -23,7 +23,15 @@ both-requires : tie.Need-both-requires
 both-requires c κs = tt
 
 returns : tie.Need-returns
-returns c = rw (c .before .either2 .ensures, c .before .before .is-challenged .ensures, c .before .before .before .unless .ensures, c .before .before .before .before .has .ensures, c .before .before .before .before .before .either .ensures, c .before .before .before .before .before .before .value .ensures) at (c .both .ensures)
+returns c =
+    rw (
+      c .before .either2 .ensures,
+      c .before .before .is-challenged .ensures,
+      c .before .before .before .unless .ensures,
+      c .before .before .before .before .has .ensures,
+      c .before .before .before .before .before .either .ensures,
+      c .before .before .before .before .before .before .value .ensures,
+    ) at (c .both .ensures)
 
 pub check-fields-spec : {M : Type 1} → statement M
 check-fields-spec =

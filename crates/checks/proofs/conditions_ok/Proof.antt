@@ -11,6 +11,9 @@ enum-told c = search needs
 enum-told-2 : tie.Need-enum-told-2
 enum-told-2 c = search needs
 
+may-create-requires : tie.Need-may-create-requires
+may-create-requires c κs = tt
+
 enum-told-3 : tie.Need-enum-told-3
 enum-told-3 c = search needs
 
@@ -32,8 +35,14 @@ enum-told-6 c = search needs
 enum-told-7 : tie.Need-enum-told-7
 enum-told-7 c = search needs
 
+may-validate-requires : tie.Need-may-validate-requires
+may-validate-requires c κs = tt
+
 enum-told-8 : tie.Need-enum-told-8
 enum-told-8 c = search needs
+
+may-purge-requires : tie.Need-may-purge-requires
+may-purge-requires c κs = tt
 
 enum-told-9 : tie.Need-enum-told-9
 enum-told-9 c = search needs
@@ -56,7 +65,7 @@ returns c = rw (c .enum-told .given .1)
 
 returns-2 : tie.Need-returns-2
 unfolding createWallet
-returns-2 c = rw (c .before .enum-told2 .given .1)
+returns-2 c = rw (c .before .enum-told2 .given .1) (c .may-create .ensures)
 
 returns-3 : tie.Need-returns-3
 unfolding checkWallet
@@ -76,11 +85,11 @@ returns-6 c = rw (c .enum-told6 .given .1)
 
 returns-7 : tie.Need-returns-7
 unfolding validateCard
-returns-7 c = rw (c .before .enum-told7 .given .1)
+returns-7 c = rw (c .before .enum-told7 .given .1) (c .may-validate .ensures)
 
 returns-8 : tie.Need-returns-8
 unfolding purgeWallet
-returns-8 c = rw (c .before .enum-told8 .given .1)
+returns-8 c = rw (c .before .enum-told8 .given .1) (c .may-purge .ensures)
 
 returns-9 : tie.Need-returns-9
 unfolding readUserData
@@ -104,6 +113,7 @@ conditions-ok-spec =
     (tie.spec
     enum-told
     enum-told-2
+    may-create-requires
     enum-told-3
     enum-told-4
     pin-conditions-requires
@@ -111,7 +121,9 @@ conditions-ok-spec =
     sign-conditions-requires
     enum-told-6
     enum-told-7
+    may-validate-requires
     enum-told-8
+    may-purge-requires
     enum-told-9
     enum-told-10
     enum-told-11

@@ -7,20 +7,47 @@ value-requires c κs = tt
 is-data-requires : tie.Need-is-data-requires
 is-data-requires c κs = tt
 
-mode-ok-requires : tie.Need-mode-ok-requires
-mode-ok-requires c κs = tt
+value-requires-2 : tie.Need-value-requires-2
+value-requires-2 c κs = tt
 
-issuer-proof-requires : tie.Need-issuer-proof-requires
-issuer-proof-requires c κs = tt
+value-requires-3 : tie.Need-value-requires-3
+value-requires-3 c κs = tt
+
+is-guarded-requires : tie.Need-is-guarded-requires
+is-guarded-requires c κs = tt
+
+unless-requires : tie.Need-unless-requires
+unless-requires c κs = tt
+
+either-requires : tie.Need-either-requires
+either-requires c κs = tt
 
 both-requires : tie.Need-both-requires
 both-requires c κs = tt
 
+mode-ok-requires : tie.Need-mode-ok-requires
+mode-ok-requires c κs = tt
+
 both-requires-2 : tie.Need-both-requires-2
 both-requires-2 c κs = tt
 
+both-requires-3 : tie.Need-both-requires-3
+both-requires-3 c κs = tt
+
 returns : tie.Need-returns
-returns c = rw (c .before .both .ensures, c .before .before .issuer-proof .ensures, c .before .before .before .mode-ok .ensures, c .before .before .before .before .is-data .ensures, c .before .before .before .before .before .value .ensures) at (c .both2 .ensures)
+returns c =
+    rw (
+      c .before .both2 .ensures,
+      c .before .before .mode-ok .ensures,
+      c .before .before .before .both .ensures,
+      c .before .before .before .before .either .ensures,
+      c .before .before .before .before .before .unless .ensures,
+      c .before .before .before .before .before .before .is-guarded .ensures,
+      c .before .before .before .before .before .before .before .value3 .ensures,
+      c .before .before .before .before .before .before .before .before .value2 .ensures,
+      c .before .before .before .before .before .before .before .before .before .is-data .ensures,
+      c .before .before .before .before .before .before .before .before .before .before .value .ensures,
+    ) at (c .both3 .ensures)
 
 pub issuer-fields-spec : {M : Type 1} → statement M
 issuer-fields-spec =
@@ -28,8 +55,13 @@ issuer-fields-spec =
     (tie.spec
     value-requires
     is-data-requires
-    mode-ok-requires
-    issuer-proof-requires
+    value-requires-2
+    value-requires-3
+    is-guarded-requires
+    unless-requires
+    either-requires
     both-requires
+    mode-ok-requires
     both-requires-2
+    both-requires-3
     returns)

@@ -21,7 +21,13 @@ either-requires : tie.Need-either-requires
 either-requires c κs = tt
 
 returns : tie.Need-returns
-returns c = rw (c .before .unless .ensures, c .before .before .has .ensures, c .before .before .before .equal .ensures, c .before .before .before .before .before .value .ensures) at (c .either .ensures)
+returns c =
+    rw (
+      c .before .unless .ensures,
+      c .before .before .has .ensures,
+      c .before .before .before .equal .ensures,
+      c .before .before .before .before .before .value .ensures,
+    ) at (c .either .ensures)
 
 pub mode-ok-spec : {M : Type 1} → statement M
 mode-ok-spec =

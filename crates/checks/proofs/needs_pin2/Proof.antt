@@ -88,7 +88,8 @@ returns-9 c = rw (c .enum-told9 .given .1)
 
 returns-10 : tie.Need-returns-10
 unfolding writeUserData
-returns-10 c = rw (c .before .before .before .enum-told10 .given .1) (rw (c .before .has2 .ensures, c .before .before .has .ensures) at (c .either .ensures))
+returns-10 c =
+    rw (c .before .before .before .enum-told10 .given .1) (rw (c .before .has2 .ensures, c .before .before .has .ensures) at (c .either .ensures))
 
 returns-11 : tie.Need-returns-11
 unfolding writeIssuerData

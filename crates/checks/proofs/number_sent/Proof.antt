@@ -14,7 +14,12 @@ either-requires : tie.Need-either-requires
 either-requires c κs = tt
 
 returns : tie.Need-returns
-returns c = rw (c .before .value .ensures, c .before .before .unless .ensures, c .before .before .before .has .ensures) at (c .either .ensures)
+returns c =
+    rw (
+      c .before .value .ensures,
+      c .before .before .unless .ensures,
+      c .before .before .before .has .ensures,
+    ) at (c .either .ensures)
 
 pub number-sent-spec : {M : Type 1} → statement M
 number-sent-spec =

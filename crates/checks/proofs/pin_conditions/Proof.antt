@@ -1,21 +1,23 @@
-use borrow.Author.Needs.{needs}
 use Rattle.checks.proofs.pin_conditions.Statement.{statement}
 use Rattle.checks.proofs.pin_conditions.Tie as tie
 
-slice-aggregate-holds : tie.Need-slice-aggregate-holds
-slice-aggregate-holds c = search needs
+flags-requires : tie.Need-flags-requires
+flags-requires c κs = tt
+
+pin1-requires : tie.Need-pin1-requires
+pin1-requires c κs = tt
 
 holds-requires : tie.Need-holds-requires
 holds-requires c κs = tt
 
-either-requires : tie.Need-either-requires
-either-requires c κs = tt
-
-slice-aggregate-holds-2 : tie.Need-slice-aggregate-holds-2
-slice-aggregate-holds-2 c = search needs
+pin2-requires : tie.Need-pin2-requires
+pin2-requires c κs = tt
 
 holds-requires-2 : tie.Need-holds-requires-2
 holds-requires-2 c κs = tt
+
+either-requires : tie.Need-either-requires
+either-requires c κs = tt
 
 either-requires-2 : tie.Need-either-requires-2
 either-requires-2 c κs = tt
@@ -25,21 +27,26 @@ both-requires c κs = tt
 
 returns : tie.Need-returns
 returns c =
-    let second = c .before in
-    let held2 = second .before .before in
-    let first = held2 .before .before .before in
-    let held1 = first .before .before in
-    rw (second .either2 .ensures, held2 .holds2 .ensures, first .either .ensures, held1 .holds .ensures) at (c .both .ensures)
+    rw (
+      c .before .either2 .ensures,
+      c .before .before .before .either .ensures,
+      c .before .before .before .before .before .holds2 .ensures,
+      c .before .before .before .before .before .before .pin2 .ensures,
+      c .before .before .before .before .before .before .before .holds .ensures,
+      c .before .before .before .before .before .before .before .before .pin1 .ensures,
+      c .before .before .before .before .before .before .before .before .before .flags .ensures,
+    ) at (c .both .ensures)
 
 pub pin-conditions-spec : {M : Type 1} → statement M
 pin-conditions-spec =
     tie.close
     (tie.spec
-    slice-aggregate-holds
+    flags-requires
+    pin1-requires
     holds-requires
-    either-requires
-    slice-aggregate-holds-2
+    pin2-requires
     holds-requires-2
+    either-requires
     either-requires-2
     both-requires
     returns)

@@ -1,8 +1,8 @@
-use mathlib.Core.Path.{sym, _∙_}
 use denote.Ref.{now}
-use borrow.Author.Needs.{needs}
-use Rattle.card.specs.Values.{bare}
+use mathlib.Core.Path.{sym, _∙_}
 use Rattle.checks.proofs.Laws.{new-conditions, again-conditions}
+use Rattle.card.specs.Image.{decode}
+use borrow.Author.Needs.{needs}
 use Rattle.checks.proofs.sign_conditions.Statement.{statement}
 use Rattle.checks.proofs.sign_conditions.Tie as tie
 
@@ -15,12 +15,18 @@ enum-known-n c = search needs
 enum-told : tie.Need-enum-told
 enum-told c = search needs
 
+last-count-requires : tie.Need-last-count-requires
+last-count-requires c κs = tt
+
 returns : tie.Need-returns
 returns c =
     let t = c .before in
     let s = t .before .before in
-    let x = s .before .before .args in
-    again-conditions (bare (x .face)) (now (x .p)) (sym (s .signing .ensures) ∙ t .enum-told .given .1)
+    let card = decode (now (s .before .before .before .args .img)) in
+    rw (c .last-count .ensures) (again-conditions (card .face) _ (sym (s .signing .ensures) ∙ t .enum-told .given .1))
+
+wallet-requires : tie.Need-wallet-requires
+wallet-requires c κs = tt
 
 cast-sum : tie.Need-cast-sum
 cast-sum c = search needs
@@ -28,15 +34,19 @@ cast-sum c = search needs
 add-sum : tie.Need-add-sum
 add-sum c = search needs
 
+cast-both : tie.Need-cast-both
+cast-both c = search needs
+
 both-requires : tie.Need-both-requires
 both-requires c κs = tt
 
 returns-2 : tie.Need-returns-2
 returns-2 c =
-    let t = c .before .before .before .before in
-    let s = t .before .before in
-    let x = s .before .before .args in
-    c .both .ensures ∙ new-conditions (bare (x .face)) (now (x .p)) _ (sym (s .signing .ensures) ∙ t .n .given .1)
+    let w = c .before .before .before in
+    let n = w .before .before in
+    let s = n .before .before in
+    let card = decode (now (s .before .before .before .args .img)) in
+    (rw (w .wallet .ensures) at (c .both .ensures)) ∙ new-conditions (card .face) _ _ (sym (s .signing .ensures) ∙ n .n .given .1)
 
 pub sign-conditions-spec : {M : Type 1} → statement M
 sign-conditions-spec =
@@ -45,8 +55,11 @@ sign-conditions-spec =
     signing-requires
     enum-known-n
     enum-told
+    last-count-requires
     returns
+    wallet-requires
     cast-sum
     add-sum
+    cast-both
     both-requires
     returns-2)

@@ -1,7 +1,6 @@
 use mathlib.Core.Path.{sym, _∙_}
-use denote.Ref.{now}
-use borrow.Author.Needs.{needs}
 use Rattle.checks.proofs.Laws.{new-fields, again-fields}
+use borrow.Author.Needs.{needs}
 use Rattle.checks.proofs.sign_fields.Statement.{statement}
 use Rattle.checks.proofs.sign_fields.Tie as tie
 
@@ -15,12 +14,10 @@ enum-told : tie.Need-enum-told
 enum-told c = search needs
 
 returns : tie.Need-returns
-returns c =
-    let s = c .before .before in
-    again-fields (now (s .before .before .args .p)) (sym (s .signing .ensures) ∙ c .enum-told .given .1)
+returns c = again-fields _ (sym (c .before .before .signing .ensures) ∙ c .enum-told .given .1)
 
-whole-hashes-requires : tie.Need-whole-hashes-requires
-whole-hashes-requires c κs = tt
+cast-t7 : tie.Need-cast-t7
+cast-t7 c = search needs
 
 value-requires : tie.Need-value-requires
 value-requires c κs = tt
@@ -31,18 +28,21 @@ slice-aggregate-equal c = search needs
 equal-requires : tie.Need-equal-requires
 equal-requires c κs = tt
 
+whole-hashes-requires : tie.Need-whole-hashes-requires
+whole-hashes-requires c κs = tt
+
 both-requires : tie.Need-both-requires
 both-requires c κs = tt
 
 returns-2 : tie.Need-returns-2
 returns-2 c =
-    let e = c .before in
+    let h = c .before in
+    let e = h .before in
     let v = e .before .before in
-    let w = v .before in
-    let t = w .before .before in
-    let s = t .before .before in
-    (rw (e .equal .ensures, v .value .ensures, w .whole-hashes .ensures) at (c .both .ensures))
-    ∙ new-fields (now (s .before .before .args .p)) _ (sym (s .signing .ensures) ∙ t .n .given .1)
+    let n = v .before .before in
+    let s = n .before .before in
+    (rw (h .whole-hashes .ensures, e .equal .ensures, v .value .ensures) at (c .both .ensures))
+    ∙ new-fields _ _ (sym (s .signing .ensures) ∙ n .n .given .1)
 
 pub sign-fields-spec : {M : Type 1} → statement M
 sign-fields-spec =
@@ -52,9 +52,10 @@ sign-fields-spec =
     enum-known-n
     enum-told
     returns
-    whole-hashes-requires
+    cast-t7
     value-requires
     slice-aggregate-equal
     equal-requires
+    whole-hashes-requires
     both-requires
     returns-2)

@@ -29,7 +29,17 @@ both-requires-4 : tie.Need-both-requires-4
 both-requires-4 c κs = tt
 
 returns : tie.Need-returns
-returns c = rw (c .before .both3 .ensures, c .before .before .any-sent .ensures, c .before .before .before .both2 .ensures, c .before .before .before .before .number-sent2 .ensures, c .before .before .before .before .before .number-sent .ensures, c .before .before .before .before .before .before .both .ensures, c .before .before .before .before .before .before .before .block-sent2 .ensures, c .before .before .before .before .before .before .before .before .block-sent .ensures) at (c .both4 .ensures)
+returns c =
+    rw (
+      c .before .both3 .ensures,
+      c .before .before .any-sent .ensures,
+      c .before .before .before .both2 .ensures,
+      c .before .before .before .before .number-sent2 .ensures,
+      c .before .before .before .before .before .number-sent .ensures,
+      c .before .before .before .before .before .before .both .ensures,
+      c .before .before .before .before .before .before .before .block-sent2 .ensures,
+      c .before .before .before .before .before .before .before .before .block-sent .ensures,
+    ) at (c .both4 .ensures)
 
 pub user-fields-spec : {M : Type 1} → statement M
 user-fields-spec =

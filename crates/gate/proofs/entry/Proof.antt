@@ -4,6 +4,12 @@ use borrow.Author.Needs.{needs}
 use Rattle.gate.proofs.entry.Statement.{statement}
 use Rattle.gate.proofs.entry.Tie as tie
 
+needs-requires : tie.Need-needs-requires
+needs-requires c κs = tt
+
+wallet-requires : tie.Need-wallet-requires
+wallet-requires c κs = tt
+
 has-pin1-requires : tie.Need-has-pin1-requires
 has-pin1-requires c κs = tt
 
@@ -25,7 +31,8 @@ enum-told-2 c = search needs
 returns : tie.Need-returns
 returns c =
     let t = c .before .before in
-    ends _ _ (c .enum-told2 .given .1) (t .before .before .before .has-pin1 .ensures)
+    let p = t .before .before .before in
+    ends _ _ (c .enum-told2 .given .1) (p .has-pin1 .ensures)
 
 enum-told-3 : tie.Need-enum-told-3
 enum-told-3 c = search needs
@@ -37,8 +44,10 @@ returns-2 : tie.Need-returns-2
 returns-2 c =
     let t1 = c .before .before in
     let t = t1 .before .before in
-    goes-on _ _ (t1 .enum-told .given .1) (t .before .before .before .has-pin1 .ensures)
-    (ends _ _ (c .enum-told4 .given .1) (t .before .before .has-cid .ensures))
+    let p = t .before .before .before in
+    let e = p .before .before .needs .ensures in
+    goes-on _ _ (t1 .enum-told .given .1) (p .has-pin1 .ensures)
+    (ends _ _ (c .enum-told4 .given .1) (rw e at (t .before .before .has-cid .ensures)))
 
 enum-told-5 : tie.Need-enum-told-5
 enum-told-5 c = search needs
@@ -51,9 +60,11 @@ returns-3 c =
     let t2 = c .before .before in
     let t1 = t2 .before .before in
     let t = t1 .before .before in
-    goes-on _ _ (t1 .enum-told .given .1) (t .before .before .before .has-pin1 .ensures)
-    (goes-on _ _ (t2 .enum-told3 .given .1) (t .before .before .has-cid .ensures)
-    (ends _ _ (c .enum-told6 .given .1) (t .before .is-awake .ensures)))
+    let p = t .before .before .before in
+    let e = p .before .before .needs .ensures in
+    goes-on _ _ (t1 .enum-told .given .1) (p .has-pin1 .ensures)
+    (goes-on _ _ (t2 .enum-told3 .given .1) (rw e at (t .before .before .has-cid .ensures))
+    (ends _ _ (c .enum-told6 .given .1) (rw e at (t .before .is-awake .ensures))))
 
 enum-told-7 : tie.Need-enum-told-7
 enum-told-7 c = search needs
@@ -67,10 +78,12 @@ returns-4 c =
     let t2 = t3 .before .before in
     let t1 = t2 .before .before in
     let t = t1 .before .before in
-    goes-on _ _ (t1 .enum-told .given .1) (t .before .before .before .has-pin1 .ensures)
-    (goes-on _ _ (t2 .enum-told3 .given .1) (t .before .before .has-cid .ensures)
-    (goes-on _ _ (t3 .enum-told5 .given .1) (t .before .is-awake .ensures)
-    (ends _ _ (c .enum-told8 .given .1) (t .is-allowed .ensures))))
+    let p = t .before .before .before in
+    let e = p .before .before .needs .ensures in
+    goes-on _ _ (t1 .enum-told .given .1) (p .has-pin1 .ensures)
+    (goes-on _ _ (t2 .enum-told3 .given .1) (rw e at (t .before .before .has-cid .ensures))
+    (goes-on _ _ (t3 .enum-told5 .given .1) (rw e at (t .before .is-awake .ensures))
+    (ends _ _ (c .enum-told8 .given .1) (rw (e, p .before .wallet .ensures) at (t .is-allowed .ensures)))))
 
 returns-5 : tie.Need-returns-5
 returns-5 c =
@@ -78,16 +91,20 @@ returns-5 c =
     let t2 = t3 .before .before in
     let t1 = t2 .before .before in
     let t = t1 .before .before in
-    goes-on _ _ (t1 .enum-told .given .1) (t .before .before .before .has-pin1 .ensures)
-    (goes-on _ _ (t2 .enum-told3 .given .1) (t .before .before .has-cid .ensures)
-    (goes-on _ _ (t3 .enum-told5 .given .1) (t .before .is-awake .ensures)
-    (goes-on _ _ (c .enum-told7 .given .1) (t .is-allowed .ensures)
-    refl)))
+    let p = t .before .before .before in
+    let e = p .before .before .needs .ensures in
+    goes-on _ _ (t1 .enum-told .given .1) (p .has-pin1 .ensures)
+    (goes-on _ _ (t2 .enum-told3 .given .1) (rw e at (t .before .before .has-cid .ensures))
+    (goes-on _ _ (t3 .enum-told5 .given .1) (rw e at (t .before .is-awake .ensures))
+    (goes-on _ _ (c .enum-told7 .given .1) (rw (e, p .before .wallet .ensures) at (t .is-allowed .ensures))
+    (refl))))
 
 pub entry-spec : {M : Type 1} → statement M
 entry-spec =
     tie.close
     (tie.spec
+    needs-requires
+    wallet-requires
     has-pin1-requires
     has-cid-requires
     is-awake-requires

@@ -1,6 +1,4 @@
-use mathlib.Core.Path.{refl, ap, _∙_}
-use Rattle.wire.specs.Wire.{verdict}
-use Rattle.fields.specs.Fields.{wellFormed}
+use mathlib.Core.Path.{refl}
 use Rattle.gate.proofs.Laws.{goes-on, ends}
 use borrow.Author.Needs.{needs}
 use Rattle.gate.proofs.form.Statement.{statement}
@@ -12,11 +10,8 @@ is-plain-requires c κs = tt
 no-parameters-requires : tie.Need-no-parameters-requires
 no-parameters-requires c κs = tt
 
-payload-requires : tie.Need-payload-requires
-payload-requires c κs = tt
-
-well-formed-requires : tie.Need-well-formed-requires
-well-formed-requires c κs = tt
+checked-requires : tie.Need-checked-requires
+checked-requires c κs = tt
 
 enum-told : tie.Need-enum-told
 enum-told c = search needs
@@ -27,7 +22,7 @@ enum-told-2 c = search needs
 returns : tie.Need-returns
 returns c =
     let t = c .before .before in
-    ends _ _ (c .enum-told2 .given .1) (t .before .before .before .is-plain .ensures)
+    ends _ _ (c .enum-told2 .given .1) (t .before .before .is-plain .ensures)
 
 enum-told-3 : tie.Need-enum-told-3
 enum-told-3 c = search needs
@@ -39,8 +34,8 @@ returns-2 : tie.Need-returns-2
 returns-2 c =
     let t1 = c .before .before in
     let t = t1 .before .before in
-    goes-on _ _ (t1 .enum-told .given .1) (t .before .before .before .is-plain .ensures)
-    (ends _ _ (c .enum-told4 .given .1) (t .before .before .no-parameters .ensures))
+    goes-on _ _ (t1 .enum-told .given .1) (t .before .before .is-plain .ensures)
+    (ends _ _ (c .enum-told4 .given .1) (t .before .no-parameters .ensures))
 
 enum-told-5 : tie.Need-enum-told-5
 enum-told-5 c = search needs
@@ -53,18 +48,18 @@ returns-3 c =
     let t2 = c .before .before in
     let t1 = t2 .before .before in
     let t = t1 .before .before in
-    goes-on _ _ (t1 .enum-told .given .1) (t .before .before .before .is-plain .ensures)
-    (goes-on _ _ (t2 .enum-told3 .given .1) (t .before .before .no-parameters .ensures)
-    (ends _ _ (c .enum-told6 .given .1) (t .well-formed .ensures ∙ ap (λ p. verdict (wellFormed p)) (t .before .payload .ensures))))
+    goes-on _ _ (t1 .enum-told .given .1) (t .before .before .is-plain .ensures)
+    (goes-on _ _ (t2 .enum-told3 .given .1) (t .before .no-parameters .ensures)
+    (ends _ _ (c .enum-told6 .given .1) (t .checked .ensures)))
 
 returns-4 : tie.Need-returns-4
 returns-4 c =
     let t2 = c .before .before in
     let t1 = t2 .before .before in
     let t = t1 .before .before in
-    goes-on _ _ (t1 .enum-told .given .1) (t .before .before .before .is-plain .ensures)
-    (goes-on _ _ (t2 .enum-told3 .given .1) (t .before .before .no-parameters .ensures)
-    (goes-on _ _ (c .enum-told5 .given .1) (t .well-formed .ensures ∙ ap (λ p. verdict (wellFormed p)) (t .before .payload .ensures))
+    goes-on _ _ (t1 .enum-told .given .1) (t .before .before .is-plain .ensures)
+    (goes-on _ _ (t2 .enum-told3 .given .1) (t .before .no-parameters .ensures)
+    (goes-on _ _ (c .enum-told5 .given .1) (t .checked .ensures)
     refl))
 
 pub form-spec : {M : Type 1} → statement M
@@ -73,8 +68,7 @@ form-spec =
     (tie.spec
     is-plain-requires
     no-parameters-requires
-    payload-requires
-    well-formed-requires
+    checked-requires
     enum-told
     enum-told-2
     returns

@@ -82,7 +82,7 @@ returns-5 c =
     (goes-on _ _ (t2 .enum-told3 .given .1) (t .before .before .has-cvc .ensures)
     (goes-on _ _ (t3 .enum-told5 .given .1) (t .before .has-fields .ensures)
     (goes-on _ _ (c .enum-told7 .given .1) (t .has-conditions .ensures)
-    refl)))
+    (refl))))
 
 pub own-spec : {M : Type 1} → statement M
 own-spec =

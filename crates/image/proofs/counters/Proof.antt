@@ -1,18 +1,51 @@
-use mathlib.Core.Path.{ap, _∙_}
-use Rattle.wire.specs.Wire.{part}
-use Rattle.card.specs.Image.{decCounters, decFace, decode}
+use Rattle.card.specs.Image.{decode}
+use borrow.Author.Needs.{needs}
 use Rattle.image.proofs.counters.Statement.{statement}
 use Rattle.image.proofs.counters.Tie as tie
 
-face-requires : tie.Need-face-requires
-face-requires c κs = tt
+cast-at : tie.Need-cast-at
+cast-at c = search needs
 
-read-counters-requires : tie.Need-read-counters-requires
-read-counters-requires c κs = tt
+get32-requires : tie.Need-get32-requires
+get32-requires c κs = tt
+
+add-get16 : tie.Need-add-get16
+add-get16 c = search needs
+
+get16-requires : tie.Need-get16-requires
+get16-requires c κs = tt
+
+add-get32 : tie.Need-add-get32
+add-get32 c = search needs
+
+get32-requires-2 : tie.Need-get32-requires-2
+get32-requires-2 c κs = tt
+
+add-get32-2 : tie.Need-add-get32-2
+add-get32-2 c = search needs
+
+get32-requires-3 : tie.Need-get32-requires-3
+get32-requires-3 c κs = tt
 
 returns : tie.Need-returns
-unfolding decode decFace
-returns c = c .read-counters .ensures ∙ ap (λ x. decCounters (part x 100 14)) (c .before .face .ensures)
+unfolding decode
+returns c =
+    let w4 = c in
+    let w3 = w4 .before in
+    let w2 = w3 .before in
+    let w1 = w2 .before in
+    λ i. record { checks = w1 .get32 .ensures i; validations = w2 .get16 .ensures i; user = w3 .get322 .ensures i; protected = w4 .get323 .ensures i }
 
 pub counters-spec : {M : Type 1} → statement M
-counters-spec = tie.close (tie.spec face-requires read-counters-requires returns)
+counters-spec =
+    tie.close
+    (tie.spec
+    cast-at
+    get32-requires
+    add-get16
+    get16-requires
+    add-get32
+    get32-requires-2
+    add-get32-2
+    get32-requires-3
+    returns)

@@ -1,24 +1,17 @@
-use mathlib.Core.Path.{ap, _∙_}
-use Rattle.wire.specs.Wire.{part}
-use Rattle.card.specs.Image.{decBlock, decFace, decode}
-use Rattle.image.specs.Group.{groupAt, blockIn}
-use Rattle.image.proofs.Laws.{part-again}
+use Rattle.card.specs.Image.{decode}
+use borrow.Author.Needs.{needs}
 use Rattle.image.proofs.protected.Statement.{statement}
 use Rattle.image.proofs.protected.Tie as tie
 
-face-requires : tie.Need-face-requires
-face-requires c κs = tt
+cast-content : tie.Need-cast-content
+cast-content c = search needs
 
-part-requires : tie.Need-part-requires
-part-requires c κs = tt
+content-requires : tie.Need-content-requires
+content-requires c κs = tt
 
 returns : tie.Need-returns
-unfolding decode decFace groupAt blockIn
-returns c =
-    let f = c .before in
-    let img = f .before .before .args .img in
-    let e = c .part .ensures ∙ ap (λ x. part x 628 514) (f .face .ensures) in
-    (e, ap (λ x. decBlock (part x 0 514)) e ∙ ap decBlock (part-again (part (img .now) 64 2365) 628 514))
+unfolding decode
+returns c = c .content .ensures
 
 pub protected-spec : {M : Type 1} → statement M
-protected-spec = tie.close (tie.spec face-requires part-requires returns)
+protected-spec = tie.close (tie.spec cast-content content-requires returns)

@@ -1,6 +1,7 @@
 -- Safe and ending: a run has a place at least. Assumes nothing.
 use Prim.Native.Nat.{_-_}
 use native.Mathlib.Omega.{arith}
+use Rattle.card.specs.Layout.{imageSize}
 use Rattle.images.proofs.report_runs.Statement.{statement}
 use Rattle.images.proofs.report_runs.Tie as tie
 
@@ -8,7 +9,7 @@ abbrev Inv-loop : tie.InvT-loop
 Inv-loop img at₀ at = Unit {0}
 
 abbrev μ-loop : tie.MeasureT-loop
-μ-loop img at₀ at = 2429 - at
+μ-loop img at₀ at = imageSize - at
 
 loop-holds : tie.Need-loop-holds Inv-loop μ-loop
 loop-holds c = tt

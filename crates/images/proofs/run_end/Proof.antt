@@ -1,14 +1,15 @@
 -- Safe and ending: the place stays between the first one and the end of an image. Assumes nothing.
 use Prim.Native.Nat.{_-_, _≤_}
 use native.Mathlib.Omega.{arith}
+use Rattle.card.specs.Layout.{imageSize}
 use Rattle.images.proofs.run_end.Statement.{statement}
 use Rattle.images.proofs.run_end.Tie as tie
 
 abbrev Inv-loop : tie.InvT-loop
-Inv-loop img from values at₀ at = (from ≤ at) × (at ≤ 2429)
+Inv-loop img from values at₀ at = (from ≤ at) × (at ≤ imageSize)
 
 abbrev μ-loop : tie.MeasureT-loop
-μ-loop img from values at₀ at = 2429 - at
+μ-loop img from values at₀ at = imageSize - at
 
 loop-holds : tie.Need-loop-holds Inv-loop μ-loop
 loop-holds c = (omega arith, omega arith)

@@ -1,6 +1,6 @@
 use mathlib.Core.Path.{sym, _∙_}
 use denote.Ref.{now}
-use Rattle.player.specs.Feed.{leftBy, closed}
+use Rattle.player.specs.Feed.{after, leftBy, closed}
 use Rattle.player.proofs.Laws.{room-there}
 use borrow.Author.Needs.{needs}
 use Rattle.player.proofs.close.Statement.{statement}
@@ -33,7 +33,7 @@ returns c =
     let e = k .end .ensures in
     rw (sym (i .before .has-place .ensures) ∙ i .if1 .taken)
     ((λ j. leftBy (c .after .ensures j) text (e 0 .image) (e 0 .out))
-    ∙ (λ j. leftBy (record { player = record { play = e j .result .play; lines = 13; held = 0 }; length = e j .result .length }) text (e j .image) (e j .out)))
+    ∙ (λ j. leftBy (record { player = after (e j .result .play); length = e j .result .length }) text (e j .image) (e j .out)))
 
 quiet-requires : tie.Need-quiet-requires
 quiet-requires c κs = tt

@@ -2,7 +2,7 @@ use mathlib.Core.Path.{sym, ap, _∙_}
 use denote.Ref.{now}
 use Rattle.recording.specs.Step.{finished, wrote}
 use Rattle.player.specs.Feed.{playedHeld}
-use Rattle.player.proofs.Laws.{all-left}
+use Rattle.recording.proofs.Laws.{all-left}
 use borrow.Author.Needs.{needs}
 use Rattle.player.proofs.end.Statement.{statement}
 use Rattle.player.proofs.end.Tie as tie
@@ -28,7 +28,8 @@ returns c =
     let a = k .before .before .before in
     let i = a .before in
     let x = i .before .before .before .before .before .args in
-    rw (sym (i .before .is-cut .ensures) ∙ i .if1 .taken) (k .play-held .ensures ∙ ap (λ v. wrote (playedHeld (x .p) (now (x .img)) v) (now (x .out))) (a .part .ensures))
+    rw (sym (i .before .is-cut .ensures) ∙ i .if1 .taken)
+    (k .play-held .ensures ∙ ap (λ v. wrote (playedHeld (x .p .play) (x .p .lines) v (now (x .img))) (now (x .out))) (a .part .ensures))
 
 finish-requires : tie.Need-finish-requires
 finish-requires c κs = tt
@@ -45,7 +46,8 @@ returns-2 c =
     let i = k .before .before .before in
     let s = i .before .before .before .before .before in
     let x = s .args in
-    rw (sym (i .before .is-cut .ensures) ∙ i .if1 .left) (k .finish .ensures ∙ all-left (x .p .play) (now (x .img)) (now (x .out)) (finished (x .p .play) (now (x .img))) (s .pre))
+    rw (sym (i .before .is-cut .ensures) ∙ i .if1 .left)
+    (k .finish .ensures ∙ all-left (x .p .play) (now (x .img)) (now (x .out)) (finished (x .p .play) (now (x .img))) (s .pre))
 
 pub end-spec : {M : Type 1} → statement M
 end-spec =

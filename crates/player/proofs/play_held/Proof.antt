@@ -1,13 +1,14 @@
-use native.Mathlib.Omega.{arith}
-use mathlib.Core.Path.{_∙_}
+use mathlib.Core.Path.{sym, _∙_}
 use denote.Ref.{now}
-use borrow.Author.Tests.{lt-ltb, le-ltb}
 use Rattle.recording.specs.Step.{start, endedAt, started, stepped}
 use Rattle.player.specs.Feed.{playedHeld}
-use Rattle.player.proofs.Laws.{all-left}
+use Rattle.recording.proofs.Laws.{all-left}
 use borrow.Author.Needs.{needs}
 use Rattle.player.proofs.play_held.Statement.{statement}
 use Rattle.player.proofs.play_held.Tie as tie
+
+belongs-requires : tie.Need-belongs-requires
+belongs-requires c κs = tt
 
 begin-requires : tie.Need-begin-requires
 begin-requires c κs = tt
@@ -26,9 +27,10 @@ unfolding playedHeld
 returns c =
     let k = c .before .before .before .before in
     let i = k .before .before .before in
-    let s = i .before .before .before .before in
+    let s = i .before .before .before .before .before in
     let x = s .args in
-    rw (lt-ltb _ _ (i .if1 .taken)) (k .begin .ensures ∙ all-left (endedAt start) (now (x .img)) (now (x .out)) (started (now (x .text)) (now (x .img))) (s .pre))
+    rw (sym (i .before .belongs .ensures) ∙ i .if1 .taken)
+    (k .begin .ensures ∙ all-left (endedAt start) (now (x .img)) (now (x .out)) (started (now (x .text)) (now (x .img))) (s .pre))
 
 same-length-3 : tie.Need-same-length-3
 same-length-3 c = search needs
@@ -41,14 +43,16 @@ unfolding playedHeld
 returns-2 c =
     let k = c .before .before .before .before in
     let i = k .before .before .before in
-    let s = i .before .before .before .before in
+    let s = i .before .before .before .before .before in
     let x = s .args in
-    rw (le-ltb (x .p .lines) 13 (omega (arith, i .if1 .left))) (k .step .ensures ∙ all-left (x .p .play) (now (x .img)) (now (x .out)) (stepped (x .p .play) (now (x .img)) (now (x .text))) (s .pre))
+    rw (sym (i .before .belongs .ensures) ∙ i .if1 .left)
+    (k .step .ensures ∙ all-left (x .p .play) (now (x .img)) (now (x .out)) (stepped (x .p .play) (now (x .img)) (now (x .text))) (s .pre))
 
 pub play-held-spec : {M : Type 1} → statement M
 play-held-spec =
     tie.close
     (tie.spec
+    belongs-requires
     begin-requires
     step-requires
     same-length

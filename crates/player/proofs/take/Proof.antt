@@ -2,7 +2,7 @@ use mathlib.Core.Path.{sym, ap, _∙_}
 use denote.Ref.{now}
 use Rattle.wire.specs.Wire.{part}
 use Rattle.recording.specs.Step.{wrote}
-use Rattle.player.specs.Feed.{playedHeld, isWhole, leftBy, heldWith}
+use Rattle.player.specs.Feed.{after, playedHeld, isWhole, leftBy, heldWith}
 use borrow.Author.Needs.{needs}
 use Rattle.player.proofs.take.Statement.{statement}
 use Rattle.player.proofs.take.Tie as tie
@@ -45,10 +45,10 @@ returns c =
     let text = w .put8 .ensures .bytes in
     let n = w .put8 .ensures .next in
     let v = a .part .ensures ∙ (λ j. part (text j) 0 (n j)) in
-    let e = k .play-held .ensures ∙ ap (λ u. wrote (playedHeld p m u) out) v in
+    let e = k .play-held .ensures ∙ ap (λ u. wrote (playedHeld (p .play) (p .lines) u m) out) v in
     rw (ap (λ u. isWhole (p .lines) u (x .b)) (sym n) ∙ sym (i .before .is-whole .ensures) ∙ i .if1 .taken)
     ((λ j. leftBy (c .after .ensures j) (text 0) (e 0 .image) (e 0 .out))
-    ∙ (λ j. leftBy (record { player = record { play = e j .result .play; lines = 13; held = 0 }; length = e j .result .length }) (text j) (e j .image) (e j .out)))
+    ∙ (λ j. leftBy (record { player = after (e j .result .play); length = e j .result .length }) (text j) (e j .image) (e j .out)))
 
 hold-requires : tie.Need-hold-requires
 hold-requires c κs = tt

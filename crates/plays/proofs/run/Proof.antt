@@ -6,7 +6,8 @@ use Rattle.plays.proofs.run.Statement.{statement}
 use Rattle.plays.proofs.run.Tie as tie
 
 abbrev Inv-loop : tie.InvT-loop
-Inv-loop line₀ text₀ img₀ out₀ s₀ turns₀ line text img out s turns = (length line ≡ length line₀) × (length text ≡ length text₀) × (length img ≡ length img₀) × (length out ≡ length out₀)
+Inv-loop line₀ text₀ img₀ out₀ s₀ turns₀ line text img out s turns =
+    (length line ≡ length line₀) × (length text ≡ length text₀) × (length img ≡ length img₀) × (length out ≡ length out₀)
 
 abbrev μ-loop : tie.MeasureT-loop
 μ-loop line₀ text₀ img₀ out₀ s₀ turns₀ line text img out s turns = turns

@@ -7,7 +7,8 @@ use Rattle.plays.proofs.take_bytes.Statement.{statement}
 use Rattle.plays.proofs.take_bytes.Tie as tie
 
 abbrev Inv-loop : tie.InvT-loop
-Inv-loop bytes line₀ text₀ img₀ out₀ t₀ i₀ line text img out t i = (length line ≡ length line₀) × (length text ≡ length text₀) × (length img ≡ length img₀) × (length out ≡ length out₀)
+Inv-loop bytes line₀ text₀ img₀ out₀ t₀ i₀ line text img out t i =
+    (length line ≡ length line₀) × (length text ≡ length text₀) × (length img ≡ length img₀) × (length out ≡ length out₀)
 
 abbrev μ-loop : tie.MeasureT-loop
 μ-loop bytes line₀ text₀ img₀ out₀ t₀ i₀ line text img out t i = length bytes - i

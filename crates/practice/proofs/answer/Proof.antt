@@ -1,15 +1,14 @@
-use mathlib.Core.Path.{ap, _∙_}
+use mathlib.Core.Path.{ap}
 use denote.Ref.{now}
 use Rattle.wire.proofs.Laws.{fine, failed}
 use Rattle.manual.specs.Settle.{settledBy}
 use Rattle.practice.specs.Carried.{answeredIn}
-use Rattle.practice.proofs.Laws.{asked-front}
 use borrow.Author.Needs.{needs}
 use Rattle.practice.proofs.answer.Statement.{statement}
 use Rattle.practice.proofs.answer.Tie as tie
 
-has-answers-requires : tie.Need-has-answers-requires
-has-answers-requires c κs = tt
+shape-requires : tie.Need-shape-requires
+shape-requires c κs = tt
 
 enum-told : tie.Need-enum-told
 enum-told c = search needs
@@ -23,14 +22,14 @@ only-requires c κs = tt
 returns : tie.Need-returns
 unfolding answeredIn
 returns c =
-    let k = c .before .before .before in
-    let s = k .before .before .before .before .before .before .before in
-    let x = s .args in
-    let e = asked-front (x .cmd) (now (x .img)) (now (x .p)) (now (x .draw)) (now (x .answers)) (s .pre .3) in
-    rw (e ∙ failed _ (c .before .enum-told2 .given .1) (k .has-answers .ensures)) (ap (λ r. settledBy r (now (x .response)) (now (x .next))) (c .only .ensures))
+    let t = c .before in
+    let k = t .before .before in
+    let x = k .before .before .before .before .before .before .before .args in
+    rw (failed _ (t .enum-told2 .given .1) (k .shape .ensures (now (x .draw))))
+    (ap (λ r. settledBy r (now (x .response)) (now (x .next))) (c .only .ensures))
 
-has-confirmation-requires : tie.Need-has-confirmation-requires
-has-confirmation-requires c κs = tt
+confirmation-requires : tie.Need-confirmation-requires
+confirmation-requires c κs = tt
 
 enum-told-3 : tie.Need-enum-told-3
 enum-told-3 c = search needs
@@ -52,12 +51,11 @@ unfolding answeredIn
 returns-2 c =
     let w = c .before .before .before .before in
     let t = w .before .before .before in
-    let u = t .before .before .before in
+    let b = t .before .before in
+    let u = b .before in
     let k = u .before .before in
-    let s = k .before .before .before .before .before .before .before in
-    let x = s .args in
-    let e = asked-front (x .cmd) (now (x .img)) (now (x .p)) (now (x .draw)) (now (x .answers)) (s .pre .3) in
-    rw (e ∙ fine _ (u .enum-told .given .1) (k .has-answers .ensures), failed _ (t .enum-told4 .given .1) (t .before .before .has-confirmation .ensures)) (w .refuse .ensures)
+    let x = k .before .before .before .before .before .before .before .args in
+    rw (fine _ (u .enum-told .given .1) (k .shape .ensures (now (x .draw))), failed _ (t .enum-told4 .given .1) (b .confirmation .ensures)) (w .refuse .ensures)
 
 carry-out-requires : tie.Need-carry-out-requires
 carry-out-requires c κs = search needs
@@ -73,23 +71,22 @@ unfolding answeredIn
 returns-3 c =
     let w = c .before .before .before .before in
     let t = w .before .before .before in
-    let u = t .before .before .before in
+    let b = t .before .before in
+    let u = b .before in
     let k = u .before .before in
-    let s = k .before .before .before .before .before .before .before in
-    let x = s .args in
-    let e = asked-front (x .cmd) (now (x .img)) (now (x .p)) (now (x .draw)) (now (x .answers)) (s .pre .3) in
-    rw (e ∙ fine _ (u .enum-told .given .1) (k .has-answers .ensures), fine _ (t .enum-told3 .given .1) (t .before .before .has-confirmation .ensures)) (w .carry-out .ensures)
+    let x = k .before .before .before .before .before .before .before .args in
+    rw (fine _ (u .enum-told .given .1) (k .shape .ensures (now (x .draw))), fine _ (t .enum-told3 .given .1) (b .confirmation .ensures)) (w .carry-out .ensures)
 
 pub answer-spec : {M : Type 1} → statement M
 answer-spec =
     tie.close
     (tie.spec
-    has-answers-requires
+    shape-requires
     enum-told
     enum-told-2
     only-requires
     returns
-    has-confirmation-requires
+    confirmation-requires
     enum-told-3
     enum-told-4
     refuse-requires

@@ -1,35 +1,22 @@
 use native.Mathlib.Omega.{arith}
-use mathlib.Core.Path.{sym, ap, ap₂, _∙_}
+use mathlib.Core.Path.{sym, ap, _∙_}
 use denote.Ref.{now}
-use Rattle.wire.specs.Wire.{joined}
 use Rattle.card.specs.Image.{decode}
-use Rattle.card.specs.Values.{bare}
-use Rattle.manual.specs.Row.{asked, eachAsked}
-use Rattle.manual.specs.Request.{payload}
+use Rattle.manual.specs.Row.{asked}
 use Rattle.manual.specs.Commands.{row}
-use Rattle.manual.specs.Settle.{matched, wordOf, posed, posedBy, outcome, askedOf}
-use Rattle.manual.proofs.Fronts.{fields-front, questions-front}
-use Rattle.gate.proofs.Laws.{fields-hold}
-use Rattle.questions.proofs.Laws.{posed as put-front}
-use Rattle.practice.proofs.Laws.{judged-read}
+use Rattle.manual.specs.Words.{swProcessCompleted}
+use Rattle.manual.specs.Settle.{wordOf, posed, posedBy, outcome}
+use Rattle.gate.proofs.Laws.{head-command}
+use Rattle.practice.proofs.Laws.{stopped, read-view, judged-read, asked-stop, asked-pass, sent-fields, posed-front, poses}
 use borrow.Author.Needs.{needs}
 use Rattle.practice.proofs.ask_card.Statement.{statement}
 use Rattle.practice.proofs.ask_card.Tie as tie
 
-front-requires : tie.Need-front-requires
-front-requires c κs = tt
+header-requires : tie.Need-header-requires
+header-requires c κs = tt
 
-codes-requires : tie.Need-codes-requires
-codes-requires c κs = tt
-
-payload-requires : tie.Need-payload-requires
-payload-requires c κs = tt
-
-judge-requires : tie.Need-judge-requires
-judge-requires c κs = tt
-
-enum-known-v : tie.Need-enum-known-v
-enum-known-v c = search needs
+enum-known-h : tie.Need-enum-known-h
+enum-known-h c = search needs
 
 enum-told : tie.Need-enum-told
 enum-told c = search needs
@@ -37,84 +24,131 @@ enum-told c = search needs
 word-of-requires : tie.Need-word-of-requires
 word-of-requires c κs = tt
 
+told-requires : tie.Need-told-requires
+told-requires c κs = tt
+
 returns : tie.Need-returns
-unfolding askedOf asked eachAsked joined
 returns c =
-    let t = c .before in
+    let w = c .before in
+    let t = w .before in
+    let h = t .before .before in
+    let x = h .before .before .before .before .before .args in
+    let m = now (x .img) in
+    let q = now (x .request) in
+    let e = c .told .ensures ∙ ap (λ z. outcome 0 z 0) (w .word-of .ensures ∙ ap wordOf (t .enum-told .given .1)) in
+    ap (λ r. posedBy r (now (x .questions))) e ∙ sym (asked-stop (decode m) q (now (x .draw)) (now (x .questions)) (stopped (decode m) q (h .header .ensures) (t .enum-told .given .1)))
+
+body-requires : tie.Need-body-requires
+body-requires c κs = tt
+
+fill-requires : tie.Need-fill-requires
+fill-requires c κs = tt
+
+judge-requires : tie.Need-judge-requires
+judge-requires c κs = tt
+
+enum-told-2 : tie.Need-enum-told-2
+enum-told-2 c = search needs
+
+enum-told-3 : tie.Need-enum-told-3
+enum-told-3 c = search needs
+
+word-of-requires-2 : tie.Need-word-of-requires-2
+word-of-requires-2 c κs = tt
+
+told-requires-2 : tie.Need-told-requires-2
+told-requires-2 c κs = tt
+
+returns-2 : tie.Need-returns-2
+returns-2 c =
+    let w = c .before in
+    let t = w .before in
     let j = t .before .before in
-    let o = j .before .before in
-    let g = o .before in
-    let x = g .before .before .before .before .before .args in
-    let e = sym (judged-read (now (x .img)) (now (x .request)) (j .judge .ensures) (o .codes .ensures) (g .front .ensures)) ∙ t .enum-told .given .1 in
-    let f = c .word-of .ensures ∙ ap wordOf (t .enum-told .given .1) in
-    rw e (λ i. posedBy (outcome 0 (f i) 0) (now (x .questions)))
+    let f = j .before .before in
+    let b = f .before .before in
+    let k = b .before .before in
+    let h = k .before .before in
+    let x = h .before .before .before .before .before .args in
+    let m = now (x .img) in
+    let q = now (x .request) in
+    let e = c .told2 .ensures ∙ ap (λ z. outcome 0 z 0) (w .word-of2 .ensures ∙ ap wordOf (t .enum-told3 .given .1)) in
+    let g = judged-read q (h .header .ensures) (k .h .given .1) (b .body .ensures) (f .fill .ensures) (decode m) (j .judge .ensures) in
+    ap (λ r. posedBy r (now (x .questions))) e ∙ sym (asked-stop (decode m) q (now (x .draw)) (now (x .questions)) (sym g ∙ t .enum-told3 .given .1))
 
 pose-requires : tie.Need-pose-requires
 pose-requires c κs = tt
 
-cast-t14 : tie.Need-cast-t14
-cast-t14 c =
-    let w = c .before .before in
-    let v = w .before .before .before in
-    let k = v .v .given .0 .0 in
-    let j = v .before .before in
-    let p = j .before in
-    let o = p .before in
-    let g = o .before in
-    let s = g .before .before .before .before .before in
+cast-told : tie.Need-cast-told
+cast-told c =
+    let o = c .before .before in
+    let t = o .before .before .before in
+    let j = t .before .before in
+    let f = j .before .before in
+    let b = f .before .before in
+    let k = b .before .before in
+    let h = k .before .before in
+    let s = h .before .before .before .before .before in
     let x = s .args in
     let m = now (x .img) in
     let q = now (x .request) in
-    let f = decode m .face in
-    let e = sym (judged-read m q (j .judge .ensures) (o .codes .ensures) (g .front .ensures)) ∙ v .v .given .1 in
-    let ok =
-    ap₂ (λ y z. row k .fields (bare y) z) (g .front .ensures) (p .payload .ensures) ∙ fields-front k f (payload q)
-    ∙ fields-hold (matched (decode m .codes) (payload q)) f q e in
-    let y = put-front (w .pose .ensures) ok (s .pre) in
-    omega (arith, y .1, w .pose .ensures .small ok)
+    let cmd = k .h .given .0 .0 in
+    let g = judged-read q (h .header .ensures) (k .h .given .1) (b .body .ensures) (f .fill .ensures) (decode m) (j .judge .ensures) in
+    let v = read-view q (h .header .ensures) (k .h .given .1) (b .body .ensures) (f .fill .ensures) in
+    let ok = sent-fields (decode m) q (now (x .draw)) (now (x .questions)) cmd (head-command q (h .header .ensures) (k .h .given .1)) (sym g ∙ t .enum-told2 .given .1) in
+    let z = posed-front cmd m _ (now (x .draw)) (ap (row cmd .fields (decode m .face)) v ∙ ok) (o .pose .ensures) (s .pre) in
+    omega (arith, z .1)
+
+told-requires-3 : tie.Need-told-requires-3
+told-requires-3 c κs = tt
 
 same-length : tie.Need-same-length
 same-length c = search needs
 
-returns-2 : tie.Need-returns-2
-unfolding askedOf
-returns-2 c =
-    let w = c .before .before in
-    let v = w .before .before .before in
-    let k = v .v .given .0 .0 in
-    let j = v .before .before in
-    let p = j .before in
-    let o = p .before in
-    let g = o .before in
-    let s = g .before .before .before .before .before in
+returns-3 : tie.Need-returns-3
+returns-3 c =
+    let o = c .before .before .before in
+    let t = o .before .before .before in
+    let j = t .before .before in
+    let f = j .before .before in
+    let b = f .before .before in
+    let k = b .before .before in
+    let h = k .before .before in
+    let s = h .before .before .before .before .before in
     let x = s .args in
     let m = now (x .img) in
     let q = now (x .request) in
-    let f = decode m .face in
-    let e = sym (judged-read m q (j .judge .ensures) (o .codes .ensures) (g .front .ensures)) ∙ v .v .given .1 in
-    let ok =
-    ap₂ (λ y z. row k .fields (bare y) z) (g .front .ensures) (p .payload .ensures) ∙ fields-front k f (payload q)
-    ∙ fields-hold (matched (decode m .codes) (payload q)) f q e in
-    let y = put-front (w .pose .ensures) ok (s .pre) in
     let d = now (x .draw) in
     let u = now (x .questions) in
-    rw e
-    ((λ i. posedBy (outcome 0 0x9000 (y .1 i)) (y .0 i)) ∙ ap₂ (λ a z. posed 0x9000 (asked (row k .questions (bare a) z d)) u) (g .front .ensures) (p .payload .ensures)
-    ∙ ap (λ z. posed 0x9000 (asked z) u) (questions-front k f (payload q) d))
+    let cmd = k .h .given .0 .0 in
+    let g = judged-read q (h .header .ensures) (k .h .given .1) (b .body .ensures) (f .fill .ensures) (decode m) (j .judge .ensures) in
+    let v = read-view q (h .header .ensures) (k .h .given .1) (b .body .ensures) (f .fill .ensures) in
+    let ek = head-command q (h .header .ensures) (k .h .given .1) in
+    let ok = sent-fields (decode m) q d u cmd ek (sym g ∙ t .enum-told2 .given .1) in
+    let z = posed-front cmd m _ d (ap (row cmd .fields (decode m .face)) v ∙ ok) (o .pose .ensures) (s .pre) .0 in
+    poses swProcessCompleted (c .told3 .ensures) z
+    ∙ ap (λ y. posed swProcessCompleted (asked (row cmd .questions (decode m .face) y d)) u) v
+    ∙ sym (asked-pass (decode m) q d u cmd ek (sym g ∙ t .enum-told2 .given .1))
 
 pub ask-card-spec : {M : Type 1} → statement M
 ask-card-spec =
     tie.close
     (tie.spec
-    front-requires
-    codes-requires
-    payload-requires
-    judge-requires
-    enum-known-v
+    header-requires
+    enum-known-h
     enum-told
     word-of-requires
+    told-requires
     returns
+    body-requires
+    fill-requires
+    judge-requires
+    enum-told-2
+    enum-told-3
+    word-of-requires-2
+    told-requires-2
+    returns-2
     pose-requires
-    cast-t14
+    cast-told
+    told-requires-3
     same-length
-    returns-2)
+    returns-3)

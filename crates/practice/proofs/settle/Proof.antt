@@ -2,7 +2,7 @@ use mathlib.Core.Path.{ap}
 use denote.Ref.{now}
 use Rattle.wire.proofs.Laws.{fine, failed}
 use Rattle.manual.specs.Settle.{settled, settledBy}
-use Rattle.image.proofs.Round.{is-card-length}
+use Rattle.cards.proofs.Round.{is-card-length}
 use Rattle.practice.proofs.Laws.{rooms}
 use borrow.Author.Needs.{needs}
 use Rattle.practice.proofs.settle.Statement.{statement}

@@ -1,27 +1,19 @@
-use mathlib.Core.Path.{sym, ap, ap₂, _∙_}
+use mathlib.Core.Path.{sym, ap, _∙_}
 use denote.Ref.{now}
 use Rattle.card.specs.Image.{decode}
-use Rattle.manual.specs.Settle.{matched, wordOf, refused, lent}
+use Rattle.manual.specs.Settle.{wordOf, refused, lent}
+use Rattle.gate.proofs.Laws.{head-command}
 use Rattle.practice.specs.Carried.{answeredIn}
-use Rattle.practice.proofs.Laws.{judged-read, settled-stop, settled-pass}
+use Rattle.practice.proofs.Laws.{stopped, read-view, judged-read, settled-stop, settled-pass}
 use borrow.Author.Needs.{needs}
 use Rattle.practice.proofs.settle_card.Statement.{statement}
 use Rattle.practice.proofs.settle_card.Tie as tie
 
-front-requires : tie.Need-front-requires
-front-requires c κs = tt
+header-requires : tie.Need-header-requires
+header-requires c κs = tt
 
-codes-requires : tie.Need-codes-requires
-codes-requires c κs = tt
-
-payload-requires : tie.Need-payload-requires
-payload-requires c κs = tt
-
-judge-requires : tie.Need-judge-requires
-judge-requires c κs = tt
-
-enum-known-v : tie.Need-enum-known-v
-enum-known-v c = search needs
+enum-known-h : tie.Need-enum-known-h
+enum-known-h c = search needs
 
 enum-told : tie.Need-enum-told
 enum-told c = search needs
@@ -40,21 +32,37 @@ same-length-2 c = search needs
 
 returns : tie.Need-returns
 returns c =
-    let w = c .before .before .before .before in
-    let o = w .before .before .before in
-    let t = o .before in
-    let j = t .before .before in
-    let k = j .before .before in
-    let f = k .before in
-    let x = f .before .before .before .before .before .before .before .args in
-    let m = now (x .img) in
+    let r = c .before .before .before .before in
+    let w = r .before .before .before in
+    let t = w .before in
+    let h = t .before .before in
+    let x = h .before .before .before .before .before .before .before .args in
+    let m = decode (now (x .img)) in
     let q = now (x .request) in
-    let e = sym (judged-read m q (j .judge .ensures) (k .codes .ensures) (f .front .ensures)) ∙ t .enum-told .given .1 in
-    w .refuse .ensures ∙ ap (λ z. lent (refused z (decode m .face)) (decode m) (now (x .response)) (now (x .next))) (o .word-of .ensures ∙ ap wordOf (t .enum-told .given .1))
-    ∙ sym (settled-stop (decode m) q (now (x .draw)) (now (x .answers)) (now (x .response)) (now (x .next)) e)
+    r .refuse .ensures
+    ∙ ap (λ z. lent (refused z (m .face)) m (now (x .response)) (now (x .next))) (w .word-of .ensures ∙ ap wordOf (t .enum-told .given .1))
+    ∙ sym (settled-stop m q (now (x .draw)) (now (x .answers)) (now (x .response)) (now (x .next)) (stopped m q (h .header .ensures) (t .enum-told .given .1)))
 
-answer-requires : tie.Need-answer-requires
-answer-requires c κs = search needs
+body-requires : tie.Need-body-requires
+body-requires c κs = tt
+
+fill-requires : tie.Need-fill-requires
+fill-requires c κs = tt
+
+judge-requires : tie.Need-judge-requires
+judge-requires c κs = tt
+
+enum-told-2 : tie.Need-enum-told-2
+enum-told-2 c = search needs
+
+enum-told-3 : tie.Need-enum-told-3
+enum-told-3 c = search needs
+
+word-of-requires-2 : tie.Need-word-of-requires-2
+word-of-requires-2 c κs = tt
+
+refuse-requires-2 : tie.Need-refuse-requires-2
+refuse-requires-2 c κs = search needs
 
 same-length-3 : tie.Need-same-length-3
 same-length-3 c = search needs
@@ -64,38 +72,74 @@ same-length-4 c = search needs
 
 returns-2 : tie.Need-returns-2
 returns-2 c =
-    let w = c .before .before .before .before in
-    let v = w .before .before .before .before in
-    let j = v .before .before in
-    let p = j .before in
-    let k = p .before in
-    let f = k .before in
-    let x = f .before .before .before .before .before .before .before .args in
-    let m = now (x .img) in
+    let r = c .before .before .before .before in
+    let w = r .before .before .before in
+    let t = w .before in
+    let j = t .before .before in
+    let f = j .before .before in
+    let b = f .before .before in
+    let k = b .before .before in
+    let h = k .before .before in
+    let x = h .before .before .before .before .before .before .before .args in
+    let m = decode (now (x .img)) in
+    let q = now (x .request) in
+    let g = judged-read q (h .header .ensures) (k .h .given .1) (b .body .ensures) (f .fill .ensures) m (j .judge .ensures) in
+    r .refuse2 .ensures
+    ∙ ap (λ z. lent (refused z (m .face)) m (now (x .response)) (now (x .next))) (w .word-of2 .ensures ∙ ap wordOf (t .enum-told3 .given .1))
+    ∙ sym (settled-stop m q (now (x .draw)) (now (x .answers)) (now (x .response)) (now (x .next)) (sym g ∙ t .enum-told3 .given .1))
+
+answer-requires : tie.Need-answer-requires
+answer-requires c κs = search needs
+
+same-length-5 : tie.Need-same-length-5
+same-length-5 c = search needs
+
+same-length-6 : tie.Need-same-length-6
+same-length-6 c = search needs
+
+returns-3 : tie.Need-returns-3
+returns-3 c =
+    let r = c .before .before .before .before in
+    let t = r .before .before .before .before in
+    let j = t .before .before in
+    let f = j .before .before in
+    let b = f .before .before in
+    let k = b .before .before in
+    let h = k .before .before in
+    let x = h .before .before .before .before .before .before .before .args in
+    let m = decode (now (x .img)) in
     let q = now (x .request) in
     let d = now (x .draw) in
     let a = now (x .answers) in
-    let e = sym (judged-read m q (j .judge .ensures) (k .codes .ensures) (f .front .ensures)) ∙ v .v .given .1 in
-    w .answer .ensures
-    ∙ ap₂ (λ y z. answeredIn (v .v .given .0 .0) (matched y z) (decode m) z d a (now (x .response)) (now (x .next))) (k .codes .ensures) (p .payload .ensures)
-    ∙ sym (settled-pass (decode m) q d a (now (x .response)) (now (x .next)) e)
+    let cmd = k .h .given .0 .0 in
+    let g = judged-read q (h .header .ensures) (k .h .given .1) (b .body .ensures) (f .fill .ensures) m (j .judge .ensures) in
+    let v = read-view q (h .header .ensures) (k .h .given .1) (b .body .ensures) (f .fill .ensures) in
+    r .answer .ensures ∙ ap (λ z. answeredIn cmd m z d a (now (x .response)) (now (x .next))) v
+    ∙ sym (settled-pass m q d a (now (x .response)) (now (x .next)) cmd (head-command q (h .header .ensures) (k .h .given .1)) (sym g ∙ t .enum-told2 .given .1))
 
 pub settle-card-spec : {M : Type 1} → statement M
 settle-card-spec =
     tie.close
     (tie.spec
-    front-requires
-    codes-requires
-    payload-requires
-    judge-requires
-    enum-known-v
+    header-requires
+    enum-known-h
     enum-told
     word-of-requires
     refuse-requires
     same-length
     same-length-2
     returns
-    answer-requires
+    body-requires
+    fill-requires
+    judge-requires
+    enum-told-2
+    enum-told-3
+    word-of-requires-2
+    refuse-requires-2
     same-length-3
     same-length-4
-    returns-2)
+    returns-2
+    answer-requires
+    same-length-5
+    same-length-6
+    returns-3)

@@ -1,11 +1,10 @@
-use native.Mathlib.Omega.{arith}
-use denote.Ref.{now}
-use Rattle.wire.specs.Wire.{joined}
-use Rattle.wire.proofs.Laws.{wrote-none}
-use Rattle.manual.specs.Row.{eachAsked, asked}
 use Rattle.manual.specs.Wallet.{readCard, createWallet, setPin, sign, purgeWallet}
 use Rattle.manual.specs.Checking.{checkWallet, verifyCard, validateCard}
 use Rattle.manual.specs.Storage.{readUserData, writeUserData, writeIssuerData, readIssuerData}
+use mathlib.Core.List.{[]}
+use Rattle.sent.specs.Sent.{viewBy}
+use Rattle.manual.specs.Row.{eachAsked}
+use Rattle.wire.proofs.Laws.{wrote-none}
 use borrow.Author.Needs.{needs}
 use Rattle.questions.proofs.pose.Statement.{statement}
 use Rattle.questions.proofs.pose.Tie as tie
@@ -65,74 +64,88 @@ enum-told-12 : tie.Need-enum-told-12
 enum-told-12 c = search needs
 
 returns : tie.Need-returns
-unfolding readCard asked eachAsked joined
-returns c = rw (c .enum-told .given .1) (record { list = wrote-none; small = λ f. omega arith })
+unfolding readCard eachAsked
+returns c = rw (c .enum-told .given .1) wrote-none
 
 same-length : tie.Need-same-length
 same-length c = search needs
 
 returns-2 : tie.Need-returns-2
 unfolding createWallet
-returns-2 c = let x = c .before .before .before .before .before .before .before .before .before .args in
-    rw (c .before .before .before .before .enum-told2 .given .1) (c .before .before .pose-key .ensures (now (x .p)) (now (x .draw)))
+returns-2 c =
+    let c1 = c .before .before in
+    let c2 = c1 .before .before in
+    rw (c2 .enum-told2 .given .1) (c1 .pose-key .ensures (viewBy [] []) [])
 
 same-length-2 : tie.Need-same-length-2
 same-length-2 c = search needs
 
 returns-3 : tie.Need-returns-3
 unfolding checkWallet
-returns-3 c = rw (c .before .before .before .before .enum-told3 .given .1) (c .before .before .pose-check .ensures)
+returns-3 c =
+    let c1 = c .before .before in
+    let c2 = c1 .before .before in
+    rw (c2 .enum-told3 .given .1) (c1 .pose-check .ensures)
 
 returns-4 : tie.Need-returns-4
-unfolding setPin asked eachAsked joined
-returns-4 c = rw (c .enum-told4 .given .1) (record { list = wrote-none; small = λ f. omega arith })
+unfolding setPin eachAsked
+returns-4 c = rw (c .enum-told4 .given .1) wrote-none
 
 same-length-3 : tie.Need-same-length-3
 same-length-3 c = search needs
 
 returns-5 : tie.Need-returns-5
 unfolding sign
-returns-5 c = let x = c .before .before .before .before .before .before .before .before .before .args in
-    rw (c .before .before .before .before .enum-told5 .given .1) (c .before .before .pose-sign .ensures (now (x .draw)))
+returns-5 c =
+    let c1 = c .before .before in
+    let c2 = c1 .before .before in
+    rw (c2 .enum-told5 .given .1) (c1 .pose-sign .ensures [])
 
 same-length-4 : tie.Need-same-length-4
 same-length-4 c = search needs
 
 returns-6 : tie.Need-returns-6
 unfolding verifyCard
-returns-6 c = rw (c .before .before .before .before .enum-told6 .given .1) (c .before .before .pose-verify .ensures)
+returns-6 c =
+    let c1 = c .before .before in
+    let c2 = c1 .before .before in
+    rw (c2 .enum-told6 .given .1) (c1 .pose-verify .ensures)
 
 same-length-5 : tie.Need-same-length-5
 same-length-5 c = search needs
 
 returns-7 : tie.Need-returns-7
 unfolding validateCard
-returns-7 c = let x = c .before .before .before .before .before .before .before .before .before .args in
-    rw (c .before .before .before .before .enum-told7 .given .1) (c .before .before .pose-validate .ensures (now (x .p)) (now (x .draw)))
+returns-7 c =
+    let c1 = c .before .before in
+    let c2 = c1 .before .before in
+    rw (c2 .enum-told7 .given .1) (c1 .pose-validate .ensures (viewBy [] []) [])
 
 returns-8 : tie.Need-returns-8
-unfolding purgeWallet asked eachAsked joined
-returns-8 c = rw (c .enum-told8 .given .1) (record { list = wrote-none; small = λ f. omega arith })
+unfolding purgeWallet eachAsked
+returns-8 c = rw (c .enum-told8 .given .1) wrote-none
 
 returns-9 : tie.Need-returns-9
-unfolding readUserData asked eachAsked joined
-returns-9 c = rw (c .enum-told9 .given .1) (record { list = wrote-none; small = λ f. omega arith })
+unfolding readUserData eachAsked
+returns-9 c = rw (c .enum-told9 .given .1) wrote-none
 
 returns-10 : tie.Need-returns-10
-unfolding writeUserData asked eachAsked joined
-returns-10 c = rw (c .enum-told10 .given .1) (record { list = wrote-none; small = λ f. omega arith })
+unfolding writeUserData eachAsked
+returns-10 c = rw (c .enum-told10 .given .1) wrote-none
 
 same-length-6 : tie.Need-same-length-6
 same-length-6 c = search needs
 
 returns-11 : tie.Need-returns-11
 unfolding writeIssuerData
-returns-11 c = let x = c .before .before .before .before .before .before .before .before .before .args in
-    rw (c .before .before .before .before .enum-told11 .given .1) (c .before .before .pose-issuer .ensures (now (x .draw)))
+returns-11 c =
+    let c1 = c .before .before in
+    let c2 = c1 .before .before in
+    rw (c2 .enum-told11 .given .1) (c1 .pose-issuer .ensures [])
 
 returns-12 : tie.Need-returns-12
-unfolding readIssuerData asked eachAsked joined
-returns-12 c = rw (c .enum-told12 .given .1) (record { list = wrote-none; small = λ f. omega arith })
+unfolding readIssuerData eachAsked
+returns-12 c = rw (c .enum-told12 .given .1) wrote-none
 
 pub pose-spec : {M : Type 1} → statement M
 pose-spec =

@@ -1,22 +1,24 @@
 use denote.Ref.{now}
 use Prim.Native.Nat.{_-_, _/_, _≤_}
 use native.Mathlib.Omega.{arith}
-use mathlib.Core.Path.{_≡_, refl, ap, _∙_}
-use mathlib.Core.List.{[], _∷_}
+use mathlib.Core.Path.{_≡_, refl, _∙_}
 use lib.ListN.{length}
-use Rattle.manual.specs.Row.{question, eachAsked}
-use Rattle.questions.proofs.Laws.{all-as, Left, turn, left-none, left-all}
+use Rattle.manual.specs.Words.{hashSize}
+use Rattle.questions.proofs.Laws.{Left, turn, left-none, left-all}
 use Rattle.questions.proofs.pose_hashes.Statement.{statement}
 use Rattle.questions.proofs.pose_hashes.Tie as tie
 
 abbrev Inv-loop : tie.InvT-loop
-Inv-loop number curve hashes out₀ n at₀ i₀ out at i = (i ≤ length hashes / 32) × (length out ≡ length out₀) × Left number curve (length hashes / 32) i hashes out₀ out at
+Inv-loop number curve hashes out₀ n at₀ i₀ out at i =
+    (i ≤ length hashes / hashSize) × (length out ≡ length out₀) × Left number curve (length hashes / hashSize) i hashes out₀ out at
 
 abbrev μ-loop : tie.MeasureT-loop
-μ-loop number curve hashes out₀ n at₀ i₀ out at i = length hashes / 32 - i
+μ-loop number curve hashes out₀ n at₀ i₀ out at i = length hashes / hashSize - i
 
 loop-holds : tie.Need-loop-holds Inv-loop μ-loop
-loop-holds c = let x = c .before .before .args in (omega arith, refl, left-all (x .number) (x .curve) (length (now (x .hashes)) / 32) (now (x .hashes)))
+loop-holds c =
+    let x = c .before .before .args in
+    (omega arith, refl, left-all (x .number) (x .curve) (length (now (x .hashes)) / hashSize) (now (x .hashes)))
 
 mul-take32 : tie.Need-mul-take32 Inv-loop μ-loop
 mul-take32 c = omega arith
@@ -37,14 +39,13 @@ loop-again : tie.Need-loop-again Inv-loop μ-loop
 loop-again c =
     let w = c .before .before in
     let t = w .before .before .before in
-    let q = w .before .take32 .ensures .0 in
     let l = t .before .loop in
     let x = t .before .before .before .before .args in
     let h = now (x .hashes) in (
       omega arith,
       w .put-hash .kept .0 ∙ l .inv .1,
-      turn (x .number) (x .curve) (length h / 32) (l .i) h (t .loop-test .taken) refl (l .inv .2)
-          (all-as (ap (λ m. eachAsked (question 2 (x .number) (x .curve) (m ∷ []) ∷ [])) q) (w .put-hash .ensures .0)),
+      turn (x .number) (x .curve) (length h / hashSize) (l .i) h (t .loop-test .taken) refl (l .inv .2)
+          (rw (w .before .take32 .ensures .0) at (w .put-hash .ensures)),
     )
 
 same-length : tie.Need-same-length Inv-loop μ-loop
@@ -54,7 +55,7 @@ returns : tie.Need-returns Inv-loop μ-loop
 returns c =
     let l = c .before .loop in
     let x = c .before .before .before .before .args in
-    left-none (x .number) (x .curve) (length (now (x .hashes)) / 32) (l .i) (now (x .hashes)) (omega arith) (l .inv .2)
+    left-none (x .number) (x .curve) (length (now (x .hashes)) / hashSize) (l .i) (now (x .hashes)) (omega arith) (l .inv .2)
 
 pub pose-hashes-spec : {M : Type 1} → statement M
 pose-hashes-spec =

@@ -1,14 +1,7 @@
-use native.Mathlib.Omega.{arith}
-use mathlib.Core.Path.{sym, ap, _∙_}
-use denote.Ref.{now}
-use lib.ListN.{length}
-use Prim.Native.Nat.{_/_}
-use Rattle.wire.specs.Wire.{joined}
+use mathlib.Core.Path.{sym, _∙_}
 use Rattle.wire.proofs.Laws.{wrote-none}
-use Rattle.fields.specs.Fields.{val}
-use Rattle.manual.specs.Row.{eachAsked, asked}
-use Rattle.manual.specs.Wallet.{sign, hashQuestions, count}
-use Rattle.questions.proofs.Laws.{all-as, hashes-small, few}
+use Rattle.manual.specs.Row.{eachAsked}
+use Rattle.manual.specs.Wallet.{sign}
 use Rattle.request.proofs.Laws.{asks-new, asks-again}
 use borrow.Author.Needs.{needs}
 use Rattle.questions.proofs.pose_sign.Statement.{statement}
@@ -24,14 +17,19 @@ enum-told-2 : tie.Need-enum-told-2
 enum-told-2 c = search needs
 
 returns : tie.Need-returns
-unfolding sign asked eachAsked joined
-returns c = λ d.
-    let g = c .before .before in
-    let p = now (g .before .before .before .args .p) in
-    rw (asks-again p (sym (g .signing .ensures) ∙ c .enum-told2 .given .1)) (record { list = wrote-none; small = λ f. omega arith })
+unfolding sign eachAsked
+returns c =
+    let c1 = c .before .before in
+    λ d. rw (asks-again _ (sym (c1 .signing .ensures) ∙ c .enum-told2 .given .1)) wrote-none
+
+wallet-requires : tie.Need-wallet-requires
+wallet-requires c κs = tt
 
 value-requires : tie.Need-value-requires
 value-requires c κs = tt
+
+curve-requires : tie.Need-curve-requires
+curve-requires c κs = tt
 
 pose-hashes-requires : tie.Need-pose-hashes-requires
 pose-hashes-requires c κs = tt
@@ -41,20 +39,15 @@ same-length c = search needs
 
 returns-2 : tie.Need-returns-2
 unfolding sign
-returns-2 c = λ d.
-    let w = c .before .before in
-    let v = w .before .before in
-    let t = v .before in
-    let g = t .before .before in
-    let x = g .before .before .before .args in
-    let p = now (x .p) in
-    let n = x .face .wallet .number in
-    let k = x .face .fixed .curve in
-    let e = asks-new p (sym (g .signing .ensures) ∙ t .enum-told .given .1) .0 in
-    rw e (record {
-      list = all-as (ap (λ l. eachAsked (hashQuestions n k (length l / 32) l)) (v .value .ensures)) (w .pose-hashes .ensures);
-      small = λ f. omega (arith, few p f, hashes-small n k (count p) (val 0x50 p));
-    })
+returns-2 c =
+    let c1 = c .before .before in
+    let c2 = c1 .before .before in
+    let c3 = c2 .before in
+    let c4 = c3 .before in
+    let c5 = c4 .before in
+    let c6 = c5 .before .before in
+    λ d. rw (asks-new _ (sym (c6 .signing .ensures) ∙ c5 .enum-told .given .1) .0)
+    (rw (c3 .value .ensures, c2 .curve .ensures, c4 .wallet .ensures) at (c1 .pose-hashes .ensures))
 
 pub pose-sign-spec : {M : Type 1} → statement M
 pose-sign-spec =
@@ -64,7 +57,9 @@ pose-sign-spec =
     enum-told
     enum-told-2
     returns
+    wallet-requires
     value-requires
+    curve-requires
     pose-hashes-requires
     same-length
     returns-2)

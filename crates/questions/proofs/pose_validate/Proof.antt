@@ -1,22 +1,25 @@
-use native.Mathlib.Omega.{arith}
-use mathlib.Core.Path.{ap}
-use mathlib.Core.List.{[], _∷_}
-use Rattle.questions.proofs.Laws.{all-as}
-use Rattle.manual.specs.Row.{question, eachAsked, asked}
-use Rattle.wire.specs.Wire.{be2, joined}
 use Rattle.manual.specs.Checking.{validateCard}
 use borrow.Author.Needs.{needs}
 use Rattle.questions.proofs.pose_validate.Statement.{statement}
 use Rattle.questions.proofs.pose_validate.Tie as tie
 
+wallet-requires : tie.Need-wallet-requires
+wallet-requires c κs = tt
+
+counters-requires : tie.Need-counters-requires
+counters-requires c κs = tt
+
 wrapping-add-u16-requires : tie.Need-wrapping-add-u16-requires
 wrapping-add-u16-requires c κs = tt
 
-cast-t6 : tie.Need-cast-t6
-cast-t6 c = search needs
+cast-put-one : tie.Need-cast-put-one
+cast-put-one c = search needs
 
-cast-t8 : tie.Need-cast-t8
-cast-t8 c = search needs
+cast-t10 : tie.Need-cast-t10
+cast-t10 c = search needs
+
+curve-requires : tie.Need-curve-requires
+curve-requires c κs = tt
 
 slice-aggregate-put-one : tie.Need-slice-aggregate-put-one
 slice-aggregate-put-one c = search needs
@@ -28,23 +31,25 @@ same-length : tie.Need-same-length
 same-length c = search needs
 
 returns : tie.Need-returns
-unfolding validateCard asked eachAsked joined
-returns c = λ p d.
-    let w = c .before .before in
-    let a = w .before .before .before in
-    let f = a .before .before .args .face in
-    record {
-      list = all-as (ap (λ n. eachAsked (question 4 (f .wallet .number) (f .fixed .curve) (be2 n ∷ []) ∷ [])) (a .wrapping-add-u16 .ensures)) (w .put-one .ensures);
-      small = λ _. omega arith;
-    }
+unfolding validateCard
+returns c =
+    let c1 = c .before .before in
+    let c2 = c1 .before .before in
+    let c3 = c2 .before .before in
+    let c4 = c3 .before in
+    let c5 = c4 .before in
+    λ v d. rw (c3 .wrapping-add-u16 .ensures, c4 .counters .ensures, c2 .curve .ensures, c5 .wallet .ensures) at (c1 .put-one .ensures)
 
 pub pose-validate-spec : {M : Type 1} → statement M
 pose-validate-spec =
     tie.close
     (tie.spec
+    wallet-requires
+    counters-requires
     wrapping-add-u16-requires
-    cast-t6
-    cast-t8
+    cast-put-one
+    cast-t10
+    curve-requires
     slice-aggregate-put-one
     put-one-requires
     same-length

@@ -1,12 +1,13 @@
-use mathlib.Core.Path.{ap₂}
-use mathlib.Core.List.{[], _∷_}
-use denote.Ref.{now}
-use Rattle.questions.proofs.Laws.{all-as, pair-small}
-use Rattle.manual.specs.Row.{question, eachAsked}
 use Rattle.manual.specs.Checking.{verifyCard}
 use borrow.Author.Needs.{needs}
 use Rattle.questions.proofs.pose_verify.Statement.{statement}
 use Rattle.questions.proofs.pose_verify.Tie as tie
+
+wallet-requires : tie.Need-wallet-requires
+wallet-requires c κs = tt
+
+curve-requires : tie.Need-curve-requires
+curve-requires c κs = tt
 
 value-requires : tie.Need-value-requires
 value-requires c κs = tt
@@ -23,17 +24,21 @@ same-length c = search needs
 returns : tie.Need-returns
 unfolding verifyCard
 returns c =
-    let t = c .before .before in
-    let v = t .before .before in
-    let x = v .before .before .before .before .before .args in
-    let p = now (x .p) in
-    let n = x .face .wallet .number in
-    let k = x .face .fixed .curve in
-    record {
-      list = all-as (ap₂ (λ a b. eachAsked (question 4 n k (a ∷ b ∷ []) ∷ [])) (v .value .ensures) (t .before .part .ensures)) (t .put-two .ensures);
-      small = λ f. pair-small 4 n k p (now (x .draw)) f;
-    }
+    let c1 = c .before .before in
+    let c2 = c1 .before in
+    let c3 = c2 .before in
+    let c4 = c3 .before in
+    let c5 = c4 .before .before in
+    rw (c2 .part .ensures, c3 .value .ensures, c4 .curve .ensures, c5 .wallet .ensures) at (c1 .put-two .ensures)
 
 pub pose-verify-spec : {M : Type 1} → statement M
 pose-verify-spec =
-    tie.close (tie.spec value-requires part-requires put-two-requires same-length returns)
+    tie.close
+    (tie.spec
+    wallet-requires
+    curve-requires
+    value-requires
+    part-requires
+    put-two-requires
+    same-length
+    returns)

@@ -1,8 +1,8 @@
-use Rattle.wire.proofs.Laws.{wrote-one}
-use Rattle.questions.proofs.Laws.{ask, one-length}
 use mathlib.Core.Path.{_∙_}
 use mathlib.Core.List.{[], _∷_}
 use denote.Ref.{now}
+use Rattle.questions.proofs.Laws.{ask, one-length}
+use Rattle.wire.proofs.Laws.{wrote-one}
 use borrow.Author.Needs.{needs}
 use Rattle.questions.proofs.put_one.Statement.{statement}
 use Rattle.questions.proofs.put_one.Tie as tie
@@ -21,11 +21,11 @@ same-length c = search needs
 
 returns : tie.Need-returns
 returns c =
-    let w = c .before .before in
-    let h = w .before .before .before .before in
-    let x = h .before .before .before .before .before .args in
-    let a = now (x .a) in
-    ask (x .kind) (x .number) (x .curve) _ (a ∷ []) (h .before .in-two .ensures ∙ one-length a) (h .put-head .ensures) (wrote-one (w .put-bytes .ensures))
+    let c1 = c .before .before in
+    let c2 = c1 .before .before .before .before in
+    let c3 = c2 .before in
+    let c4 = c3 .before .before .before .before in
+    ask _ _ _ _ (now (c4 .args .a) ∷ []) (c3 .in-two .ensures ∙ one-length (now (c4 .args .a))) (c2 .put-head .ensures) (wrote-one (c1 .put-bytes .ensures))
 
 pub put-one-spec : {M : Type 1} → statement M
 put-one-spec =

@@ -1,8 +1,6 @@
-use Rattle.wire.proofs.Laws.{wrote-one, wrote-more}
-use Rattle.questions.proofs.Laws.{ask, two-length}
 use mathlib.Core.Path.{_∙_}
-use mathlib.Core.List.{[], _∷_}
-use denote.Ref.{now}
+use Rattle.questions.proofs.Laws.{ask, two-length}
+use Rattle.wire.proofs.Laws.{wrote-one, wrote-more}
 use borrow.Author.Needs.{needs}
 use Rattle.questions.proofs.put_two.Statement.{statement}
 use Rattle.questions.proofs.put_two.Tie as tie
@@ -27,14 +25,11 @@ same-length c = search needs
 
 returns : tie.Need-returns
 returns c =
-    let w2 = c .before .before in
-    let w1 = w2 .before .before .before .before in
-    let h = w1 .before .before .before .before in
-    let n = h .before .before in
-    let x = n .before .before .before .before .args in
-    let a = now (x .challenge) in
-    let b = now (x .salt) in
-    ask (x .kind) (x .number) (x .curve) _ (a ∷ b ∷ []) (n .in-two .ensures ∙ two-length a b) (h .put-head .ensures) (wrote-more (w1 .put-bytes .ensures) (wrote-one (w2 .put-bytes2 .ensures)))
+    let c1 = c .before .before in
+    let c2 = c1 .before .before .before .before in
+    let c3 = c2 .before .before .before .before in
+    let c4 = c3 .before .before in
+    ask _ _ _ _ _ (c4 .in-two .ensures ∙ two-length _ _) (c3 .put-head .ensures) (wrote-more (c2 .put-bytes .ensures) (wrote-one (c1 .put-bytes2 .ensures)))
 
 pub put-two-spec : {M : Type 1} → statement M
 put-two-spec =

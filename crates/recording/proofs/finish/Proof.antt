@@ -36,8 +36,9 @@ unfolding finished
 returns-2 c =
     let g = c .before .before in
     let x = g .before .before .before .args in
+    let f = sym (g .goes-on .ensures) ∙ c .before .if1 .left in
     (λ j. leftBy (c .quiet .ensures j) (now (x .img)) (now (x .out)))
-    ∙ sym (stays (x .play) (now (x .img)) (now (x .out)) (finished (x .play) (now (x .img))) (sym (g .goes-on .ensures) ∙ c .before .if1 .left) (λ e. rw e refl))
+    ∙ sym (stays (x .play) (now (x .img)) (now (x .out)) (finished (x .play) (now (x .img))) f (λ e. rw e refl))
 
 pub finish-spec : {M : Type 1} → statement M
 finish-spec =

@@ -4,10 +4,11 @@ use mathlib.Core.Path.{sym, ap, _∙_}
 use denote.Ref.{now}
 use lib.ListN.{length, take, replicate, length-replicate}
 use borrow.Author.Tests.{eq-eqb, ne-eqb}
+use Rattle.card.specs.Layout.{imageSize, imageRoom}
 use Rattle.manual.specs.Settle.{over}
 use Rattle.printing.specs.Printing.{badText}
 use Rattle.recording.specs.Step.{endedAt, started, leftBy}
-use Rattle.recording.proofs.Laws.{fresh-image, answers-first}
+use Rattle.personalise.proofs.Laws.{fresh-image, answers-first}
 use borrow.Author.Needs.{needs}
 use Rattle.recording.proofs.fresh_card.Statement.{statement}
 use Rattle.recording.proofs.fresh_card.Tie as tie
@@ -41,10 +42,10 @@ returns c =
     let s = p .before .before .before .before .before in
     let v = now (s .args .sheet) in
     let out = now (s .args .out) in
-    let h : 4096 ≤ length {A = ℕ} (replicate 4096 0) = omega (arith, length-replicate {A = ℕ} 4096 0) in
-    let e = sym (answers-first v (replicate 4096 0) h) ∙ sym (p .personalise .ensures .0) ∙ k .before .before .before .if1 .taken in
+    let h : imageRoom ≤ length {A = ℕ} (replicate imageRoom 0) = omega (arith, length-replicate {A = ℕ} imageRoom 0) in
+    let e = sym (answers-first v (replicate imageRoom 0) h) ∙ sym (p .personalise .ensures .0) ∙ k .before .before .before .if1 .taken in
     let t = c .quiet .ensures ∙ ap (λ y. record { play = y; length = 0 }) (c .before .new-play .ensures) in
-    let m = k .renew .ensures ∙ ap (take 2429) (p .personalise .ensures .1) ∙ fresh-image v (replicate 4096 0) h e in
+    let m = k .renew .ensures ∙ ap (take imageSize) (p .personalise .ensures .1) ∙ fresh-image v (replicate imageRoom 0) h e in
     rw (eq-eqb _ _ e) (λ j. leftBy (t j) (m j) out)
 
 new-play-requires-2 : tie.Need-new-play-requires-2
@@ -65,8 +66,8 @@ returns-2 c =
     let s = p .before .before .before .before .before in
     let v = now (s .args .sheet) in
     let out = now (s .args .out) in
-    let h : 4096 ≤ length {A = ℕ} (replicate 4096 0) = omega (arith, length-replicate {A = ℕ} 4096 0) in
-    let a = p .personalise .ensures .0 ∙ answers-first v (replicate 4096 0) h in
+    let h : imageRoom ≤ length {A = ℕ} (replicate imageRoom 0) = omega (arith, length-replicate {A = ℕ} imageRoom 0) in
+    let a = p .personalise .ensures .0 ∙ answers-first v (replicate imageRoom 0) h in
     let t = k .stop .ensures .0 ∙ (λ j. record { play = endedAt (n .new-play2 .ensures j); length = length (badText (a j)) }) in
     let w = k .stop .ensures .1 ∙ ap (λ u. over (badText u) out) a in
     rw (ne-eqb _ _ (λ e. n .before .if1 .left (a ∙ e))) (λ j. leftBy (t j) (now (s .args .img)) (w j))

@@ -1,6 +1,4 @@
-use Prim.Native.Nat.{_+_}
-use native.Mathlib.Omega.{arith}
-use mathlib.Core.Path.{_≡_, sym, ap, _∙_}
+use mathlib.Core.Path.{sym, ap, _∙_}
 use denote.Ref.{now}
 use lib.ListN.{length}
 use Rattle.manual.specs.Settle.{over}
@@ -43,14 +41,8 @@ returns c =
     rw (s .pre .0, sym (n .is-next .ensures) ∙ h .before .if1 .taken)
     (k .tap .ensures ∙ ap (λ l. wrote (tapped (played (x .play) (now (x .img))) (recordedIn l)) (now (x .out))) (h .head-to .ensures))
 
-cast-stop : tie.Need-cast-stop
-cast-stop c = search needs
-
-add-stop : tie.Need-add-stop
-add-stop c = search needs
-
-add-stop-2 : tie.Need-add-stop-2
-add-stop-2 c = search needs
+line-after-requires : tie.Need-line-after-requires
+line-after-requires c κs = tt
 
 stop-requires : tie.Need-stop-requires
 stop-requires c κs = search needs
@@ -62,11 +54,12 @@ returns-2 : tie.Need-returns-2
 unfolding stepped
 returns-2 c =
     let k = c .before .before in
-    let i = k .before .before .before in
+    let a = k .before .before in
+    let i = a .before in
     let n = i .before in
     let s = n .before .before .before .before in
     let x = s .args in
-    let z : x .play .taps + 13 + 1 ≡ x .play .taps + 14 = omega arith in
+    let z = a .line-after .ensures in
     let e = k .stop .ensures .0 ∙ ap (λ u. record { play = endedAt (x .play); length = length (badText u) }) z in
     let f = k .stop .ensures .1 ∙ ap (λ u. over (badText u) (now (x .out))) z in
     rw (s .pre .0, sym (n .is-next .ensures) ∙ i .if1 .left) (λ j. leftBy (e j) (now (x .img)) (f j))
@@ -81,9 +74,7 @@ play-line-spec =
     same-length
     same-length-2
     returns
-    cast-stop
-    add-stop
-    add-stop-2
+    line-after-requires
     stop-requires
     same-length-3
     returns-2)

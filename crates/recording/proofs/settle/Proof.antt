@@ -2,7 +2,8 @@ use mathlib.Core.Path.{ap, _∙_}
 use denote.Ref.{now}
 use lib.ListN.{replicate}
 use Rattle.text.specs.Text.{unhex}
-use Rattle.manual.specs.Settle.{settled}
+use Rattle.card.specs.Layout.{imageRoom}
+use Rattle.manual.specs.Settle.{settleCall, settled}
 use Rattle.recording.specs.Step.{renewed}
 use Rattle.recording.proofs.Laws.{draw-fits, answers-fits, read-back}
 use borrow.Author.Needs.{needs}
@@ -49,7 +50,10 @@ slice-aggregate-renew : tie.Need-slice-aggregate-renew
 slice-aggregate-renew c = search needs
 
 renew-requires : tie.Need-renew-requires
-renew-requires c κs = (c .before .before .before .before .before .before .before .before .before .before .before .before .before .before .before .before .before .before .before .before .before .before .before .before .before .pre .1, search needs)
+renew-requires c κs =
+    let g = c .before .before .before .before .before .before .before .before .before .before .before .before in
+    let s = g .before .before .before .before .before .before .before .before .before .before .before .before .before in
+    (s .pre .1, search needs)
 
 same-length : tie.Need-same-length
 same-length c = search needs
@@ -73,8 +77,9 @@ returns c =
     let l = now (x .l) in
     let p = d .part .ensures ∙ read-back (u .unhex .ensures) (rw (w .draw .ensures) (draw-fits l (s .pre .0))) ∙ ap unhex (w .draw .ensures) in
     let q = y .part2 .ensures ∙ read-back (v .unhex2 .ensures) (rw (a .answers .ensures) (answers-fits l (s .pre .0))) ∙ ap unhex (a .answers .ensures) in
-    let e = g .settle .ensures ∙ (λ j. settled m (now (x .request)) (p j) (q j) (now (x .response)) (replicate 4096 0)) in
-    record { result = ap (λ z. z .result) e; response = ap (λ z. z .response) e; image = n .renew .ensures ∙ ap (λ z. renewed (z .result .number) (z .next) m) e }
+    let e = g .settle .ensures ∙ (λ j. settled m (settleCall (now (x .request)) (p j) (q j) (now (x .response)) (replicate imageRoom 0))) in
+    let i = n .renew .ensures ∙ ap (λ z. renewed (z .result .number) (z .next) m) e in
+    record { result = ap (λ z. z .result) e; response = ap (λ z. z .response) e; image = i }
 
 pub settle-spec : {M : Type 1} → statement M
 settle-spec =

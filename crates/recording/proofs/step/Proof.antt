@@ -30,7 +30,8 @@ returns c =
     let i = k .before .before .before in
     let g = i .before in
     let x = g .before .before .before .before .args in
-    k .play-line .ensures ∙ sym (goes (x .play) (now (x .img)) (now (x .out)) (stepped (x .play) (now (x .img)) (now (x .line))) (sym (g .goes-on .ensures) ∙ i .if1 .taken))
+    let z = stepped (x .play) (now (x .img)) (now (x .line)) in
+    k .play-line .ensures ∙ sym (goes (x .play) (now (x .img)) (now (x .out)) z (sym (g .goes-on .ensures) ∙ i .if1 .taken))
 
 quiet-requires : tie.Need-quiet-requires
 quiet-requires c κs = tt
@@ -40,8 +41,9 @@ unfolding stepped
 returns-2 c =
     let g = c .before .before in
     let x = g .before .before .before .before .args in
+    let z = stepped (x .play) (now (x .img)) (now (x .line)) in
     (λ j. leftBy (c .quiet .ensures j) (now (x .img)) (now (x .out)))
-    ∙ sym (stays (x .play) (now (x .img)) (now (x .out)) (stepped (x .play) (now (x .img)) (now (x .line))) (sym (g .goes-on .ensures) ∙ c .before .if1 .left) (λ e. rw e refl))
+    ∙ sym (stays (x .play) (now (x .img)) (now (x .out)) z (sym (g .goes-on .ensures) ∙ c .before .if1 .left) (λ e. rw e refl))
 
 pub step-spec : {M : Type 1} → statement M
 step-spec =

@@ -28,7 +28,8 @@ tap-with-requires c κs =
     let r = u .before .before in
     let s = r .before .before .before .before in
     let e = r .request .ensures in
-    (s .pre .0, a .part .ensures ∙ read-back (u .unhex .ensures) (rw e (request-fits (now (s .args .l)) (s .pre .1))) ∙ ap unhex e, s .pre .1, s .pre .2, s .pre .3)
+    let q = a .part .ensures ∙ read-back (u .unhex .ensures) (rw e (request-fits (now (s .args .l)) (s .pre .1))) ∙ ap unhex e in
+    (s .pre .0, q, s .pre .1, s .pre .2, s .pre .3)
 
 same-length : tie.Need-same-length
 same-length c = search needs

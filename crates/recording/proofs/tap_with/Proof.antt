@@ -5,11 +5,12 @@ use mathlib.Core.Bool.{false}
 use denote.Ref.{now}
 use lib.ListN.{length, replicate}
 use Rattle.wire.specs.Wire.{part}
-use Rattle.text.specs.Text.{unhex}
+use Rattle.manual.specs.Words.{responseRoom}
 use Rattle.manual.specs.Settle.{over}
-use Rattle.history.specs.Sums.{tap}
-use Rattle.tapline.specs.Line.{requestIn, drawIn, answersIn}
+use Rattle.story.specs.Sums.{tap}
+use Rattle.tapline.specs.Line.{recordedIn}
 use Rattle.sums.specs.Counted.{counted}
+use Rattle.recording.specs.Play.{callOf}
 use Rattle.recording.specs.Step.{settledIn, renewed, leftBy}
 use Rattle.recording.proofs.Laws.{small-part, said-is, same-line}
 use borrow.Author.Needs.{needs}
@@ -43,7 +44,8 @@ expected-requires c κs = tt
 print-tap-requires : tie.Need-print-tap-requires
 print-tap-requires c κs =
     let a = c .before .before .before in
-    (rw (a .part .ensures) (small-part _ _ 2048 (search needs)), a .before .before .before .before .before .before .before .before .before .before .before .before .before .pre .4)
+    let s = a .before .before .before .before .before .before .before .before .before .before .before .before .before in
+    (rw (a .part .ensures) (small-part _ _ responseRoom (search needs)), s .pre .4)
 
 count-requires : tie.Need-count-requires
 count-requires c κs = tt
@@ -65,14 +67,14 @@ returns c =
     let m = now (y .img) in
     let l = now (y .l) in
     let gave = g .settle .ensures in
-    let given = ap (λ q. settledIn m q l (replicate 2048 0)) (s .pre .1) in
+    let given = ap (λ q. settledIn m q l (replicate responseRoom 0)) (s .pre .1) in
     let result = gave .result ∙ ap (λ z. z .result) given in
     let response = gave .response ∙ ap (λ z. z .response) given in
     let image = gave .image ∙ ap (λ z. renewed (z .result .number) (z .next) m) given in
     let told =
     a .part .ensures
     ∙ (λ j. part (response j) 0 (result j .length))
-    ∙ said-is m (unhex (requestIn l)) (unhex (drawIn l)) (unhex (answersIn l)) (replicate 2048 0) (replicate 4096 0) in
+    ∙ said-is m (callOf (recordedIn l)) in
     let sums = c .count .ensures ∙ (λ j. counted (y .play .sums) (tap (s .pre .1 j) (told j))) in
     let taps : y .play .taps + 1 ≡ suc (y .play .taps) = omega arith in
     let line = same-line taps (x .expected .ensures) (ap (λ z. z .number) result) told in

@@ -4,8 +4,6 @@ use native.Mathlib.Omega.{arith}
 use borrow.Author.Needs.{needs}
 use Rattle.request.proofs.lc_of.Statement.{statement}
 use Rattle.request.proofs.lc_of.Tie as tie
-use Rattle.request.proofs.lc_of.Reads as reads
-use Rattle.request.proofs.lc_of.Lts as lts
 
 returns : tie.Need-returns
 unfolding lcOf
@@ -26,17 +24,20 @@ add-if4 c = omega (arith, c .before .shared-slice-known .given 4)
 
 returns-3 : tie.Need-returns-3
 unfolding lcOf
-returns-3 c = let p = c .before .before .before in
+returns-3 c =
+    let p = c .before .before .before in
     simp (le-ltb _ _ (p .before .if1 .left), le-ltb _ _ (p .if2 .left), ne-eqb _ _ (c .before .if3 .taken), eq-eqb _ _ (c .if4 .taken))
 
 returns-4 : tie.Need-returns-4
 unfolding lcOf
-returns-4 c = let p = c .before .before .before in
+returns-4 c =
+    let p = c .before .before .before in
     simp (le-ltb _ _ (p .before .if1 .left), le-ltb _ _ (p .if2 .left), ne-eqb _ _ (c .before .if3 .taken), ne-eqb _ _ (c .if4 .left))
 
 returns-5 : tie.Need-returns-5
 unfolding lcOf
-returns-5 c = let p = c .before .before .before in
+returns-5 c =
+    let p = c .before .before .before in
     simp (le-ltb _ _ (p .before .if1 .left), le-ltb _ _ (p .if2 .left), eq-eqb _ _ (c .before .if3 .left), lt-ltb _ _ (c .if5 .taken))
 
 shared-slice-read-m : tie.Need-shared-slice-read-m
@@ -62,13 +63,19 @@ add-if6 c = omega (arith, c .shared-slice-known3 .given 5, c .shared-slice-known
 
 returns-6 : tie.Need-returns-6
 unfolding lcOf
-returns-6 c = let q = c .before .before .before in let p = q .before .before .before in
-    simp (le-ltb _ _ (p .before .if1 .left), le-ltb _ _ (p .if2 .left), eq-eqb _ _ (q .before .if3 .left), le-ltb _ _ (q .if5 .left), eq-eqb _ _ (c .if6 .taken))
+returns-6 c =
+    let q = c .before .before .before in
+    let p = q .before .before .before in
+    let a = le-ltb _ _ (p .before .if1 .left) in
+    simp (a, le-ltb _ _ (p .if2 .left), eq-eqb _ _ (q .before .if3 .left), le-ltb _ _ (q .if5 .left), eq-eqb _ _ (c .if6 .taken))
 
 returns-7 : tie.Need-returns-7
 unfolding lcOf
-returns-7 c = let q = c .before .before .before in let p = q .before .before .before in
-    simp (le-ltb _ _ (p .before .if1 .left), le-ltb _ _ (p .if2 .left), eq-eqb _ _ (q .before .if3 .left), le-ltb _ _ (q .if5 .left), ne-eqb _ _ (c .if6 .left))
+returns-7 c =
+    let q = c .before .before .before in
+    let p = q .before .before .before in
+    let a = le-ltb _ _ (p .before .if1 .left) in
+    simp (a, le-ltb _ _ (p .if2 .left), eq-eqb _ _ (q .before .if3 .left), le-ltb _ _ (q .if5 .left), ne-eqb _ _ (c .if6 .left))
 
 pub lc-of-spec : {M : Type 1} → statement M
 lc-of-spec =

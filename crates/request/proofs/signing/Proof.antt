@@ -1,49 +1,39 @@
-use mathlib.Core.Path.{sym, ap, _∙_}
-use denote.Ref.{now}
-use borrow.Author.Needs.{needs}
-use Rattle.wire.proofs.Laws.{length-part}
-use Rattle.fields.specs.Fields.{has, val}
-use Rattle.fields.proofs.Laws.{inside}
+use mathlib.Core.Path.{sym, _∙_, ap}
+use lib.ListN.{length}
 use Rattle.manual.specs.Wallet.{signing}
 use Rattle.manual.specs.declared.Signing.the-variants.{New}
 use Rattle.request.proofs.signing.Statement.{statement}
 use Rattle.request.proofs.signing.Tie as tie
 
-find-from-requires : tie.Need-find-from-requires
-find-from-requires c κs = tt
+value-requires : tie.Need-value-requires
+value-requires c κs = tt
 
-enum-known-len : tie.Need-enum-known-len
-enum-known-len c = search needs
+has-requires : tie.Need-has-requires
+has-requires c κs = tt
 
-enum-told : tie.Need-enum-told
-enum-told c = search needs
+has-requires-2 : tie.Need-has-requires-2
+has-requires-2 c κs = tt
 
-without-hashes-requires : tie.Need-without-hashes-requires
-without-hashes-requires c κs = tt
+either-requires : tie.Need-either-requires
+either-requires c κs = tt
 
 returns : tie.Need-returns
-unfolding signing has val
+unfolding signing
 returns c =
-    let t = c .before in
-    let e = sym (t .before .before .find-from .ensures) ∙ t .enum-told .given .1 in
-    rw e (c .without-hashes .ensures)
+    let e = c .before in
+    let h = e .before in
+    let t = rw (h .has2 .ensures, h .before .has .ensures) at (sym (e .either .ensures) ∙ c .if1 .taken) in
+    sym (rw t (ap (λ v. New (length v)) (sym (h .before .before .value .ensures))))
 
 returns-2 : tie.Need-returns-2
-unfolding signing has val
+unfolding signing
 returns-2 c =
-    let t = c .before in
-    let f = t .before .before in
-    let p = now (f .before .before .args .p) in
-    let e = sym (f .find-from .ensures) ∙ t .len .given .1 in
-    rw e (ap New (sym (length-part p _ _ (inside 0x50 p 0 e))))
+    let e = c .before in
+    let h = e .before in
+    let t = rw (h .has2 .ensures, h .before .has .ensures) at (sym (e .either .ensures) ∙ c .if1 .left) in
+    sym (rw t)
 
 pub signing-spec : {M : Type 1} → statement M
 signing-spec =
     tie.close
-    (tie.spec
-    find-from-requires
-    enum-known-len
-    enum-told
-    without-hashes-requires
-    returns
-    returns-2)
+    (tie.spec value-requires has-requires has-requires-2 either-requires returns returns-2)

@@ -1,10 +1,10 @@
 use mathlib.Core.List.{List}
-use Rattle.sheet.specs.Sheet.{goodLine, badFrom, firstBad}
+use Rattle.sheet.specs.Sheet.{sheetLines, rowOf, goodLine, badFrom, firstBad}
 use Rattle.sheet.proofs.Laws.{bad-here, bad-on, bad-end}
 use Rattle.text.specs.Lines.{nextLine, startOf, fromLine}
 use mathlib.Core.Path.{_≡_, refl, sym, ap, _∙_}
 use denote.Ref.{now}
-use Prim.Native.Nat.{ℕ, _-_, _≤_}
+use Prim.Native.Nat.{ℕ, suc, _-_, _≤_}
 use mathlib.Core.Bool.{cond}
 use lib.ListN.{length, drop}
 use lib.Dec.{ltb}
@@ -19,10 +19,11 @@ unfolding fromLine
 from k at s e = ap (λ (n : ℕ). drop n s) e
 
 abbrev Inv-loop : tie.InvT-loop
-Inv-loop sheet at₀ line₀ at line = (1 ≤ line) × (line ≤ 14) × (at ≡ startOf line sheet) × (firstBad sheet ≡ badFrom (14 - line) line sheet)
+Inv-loop sheet at₀ line₀ at line =
+    (1 ≤ line) × (line ≤ suc sheetLines) × (at ≡ startOf line sheet) × (firstBad sheet ≡ badFrom (suc sheetLines - line) line sheet)
 
 abbrev μ-loop : tie.MeasureT-loop
-μ-loop sheet at₀ line₀ at line = 14 - line
+μ-loop sheet at₀ line₀ at line = suc sheetLines - line
 
 loop-holds : tie.Need-loop-holds Inv-loop μ-loop
 unfolding firstBad startOf
@@ -47,19 +48,33 @@ loop-less : tie.Need-loop-less Inv-loop μ-loop
 loop-less c = omega arith
 
 loop-again : tie.Need-loop-again Inv-loop μ-loop
-loop-again c = let g = c .before .before in let l = g .before .before .before .loop in let s = now (g .before .before .before .before .before .args .sheet) in
-    let h : l .line ≤ 13 = omega arith in
-    let e = sym (g .good-line .ensures ∙ ap (goodLine (l .line)) (g .before .rest .ensures ∙ from (l .line) (l .at) s (l .inv .2))) ∙ not-false _ (c .before .if2 .left) in
-    (omega arith, omega arith, c .next-line .ensures ∙ ap (nextLine s) (l .inv .2) ∙ sym (start-next (l .line) s (l .inv .0)), l .inv .3 ∙ bad-on (l .line) s (l .inv .0) h e)
+loop-again c =
+    let g = c .before .before in
+    let l = g .before .before .before .loop in
+    let s = now (g .before .before .before .before .before .args .sheet) in
+    let h : l .line ≤ sheetLines = omega arith in
+    let r = g .good-line .ensures ∙ ap (goodLine (rowOf (l .line))) (g .before .rest .ensures ∙ from (l .line) (l .at) s (l .inv .2)) in
+    let e = sym r ∙ not-false _ (c .before .if2 .left) in
+    let n = c .next-line .ensures ∙ ap (nextLine s) (l .inv .2) ∙ sym (start-next (l .line) s (l .inv .0)) in
+    (omega arith, omega arith, n, l .inv .3 ∙ bad-on (l .line) s (l .inv .0) h e)
 
 returns : tie.Need-returns Inv-loop μ-loop
-returns c = let l = c .before .before .loop in let s = now (c .before .before .before .before .args .sheet) in
-    c .after-last .ensures ∙ ap (λ (n : ℕ). cond (ltb n (length s)) (l .line) 0) (l .inv .2) ∙ sym (l .inv .3 ∙ bad-end (l .line) s (omega arith))
+returns c =
+    let l = c .before .before .loop in
+    let s = now (c .before .before .before .before .args .sheet) in
+    let z : suc sheetLines - l .line ≡ 0 = omega arith in
+    c .after-last .ensures
+    ∙ ap (λ (n : ℕ). cond (ltb n (length s)) (l .line) 0) (l .inv .2)
+    ∙ sym (l .inv .3 ∙ ap (λ (n : ℕ). badFrom n (l .line) s) z ∙ bad-end (l .line) s)
 
 returns-2 : tie.Need-returns-2 Inv-loop μ-loop
-returns-2 c = let g = c .before in let l = g .before .before .before .loop in let s = now (g .before .before .before .before .before .args .sheet) in
-    let h : l .line ≤ 13 = omega arith in
-    let e = sym (g .good-line .ensures ∙ ap (goodLine (l .line)) (g .before .rest .ensures ∙ from (l .line) (l .at) s (l .inv .2))) ∙ not-true _ (c .if2 .taken) in
+returns-2 c =
+    let g = c .before in
+    let l = g .before .before .before .loop in
+    let s = now (g .before .before .before .before .before .args .sheet) in
+    let h : l .line ≤ sheetLines = omega arith in
+    let r = g .good-line .ensures ∙ ap (goodLine (rowOf (l .line))) (g .before .rest .ensures ∙ from (l .line) (l .at) s (l .inv .2)) in
+    let e = sym r ∙ not-true _ (c .if2 .taken) in
     sym (l .inv .3 ∙ bad-here (l .line) s (l .inv .0) h e)
 
 pub first-bad-spec : {M : Type 1} → statement M

@@ -138,8 +138,18 @@ unfolding goodRow rowOf rows
 returns-13 c = rw (c .before .before .match .keys13) (c .flag-row7 .ensures)
 
 returns-14 : tie.Need-returns-14
-returns-14 c = let r = c .match .rest in let x = c .before .before .before .args in
-    sym (no-row (x .line) _ _ (λ h k. let z : 14 ≤ x .line = past 13 (past 12 (past 11 (past 10 (past 9 (past 8 (past 7 (past 6 (past 5 (past 4 (past 3 (past 2 (past 1 h (r .0 .0 .0 .0 .0 .0 .0 .0 .0 .0 .0 .0 .1)) (r .0 .0 .0 .0 .0 .0 .0 .0 .0 .0 .0 .1)) (r .0 .0 .0 .0 .0 .0 .0 .0 .0 .0 .1)) (r .0 .0 .0 .0 .0 .0 .0 .0 .0 .1)) (r .0 .0 .0 .0 .0 .0 .0 .0 .1)) (r .0 .0 .0 .0 .0 .0 .0 .1)) (r .0 .0 .0 .0 .0 .0 .1)) (r .0 .0 .0 .0 .0 .1)) (r .0 .0 .0 .0 .1)) (r .0 .0 .0 .1)) (r .0 .0 .1)) (r .0 .1)) (r .1) in omega arith))
+returns-14 c =
+    let r = c .match .rest in
+    let x = c .before .before .before .args in
+    sym
+    (no-row (x .line) _ _
+    (λ h k.
+    let a = past 2 (past 1 h (r .0 .0 .0 .0 .0 .0 .0 .0 .0 .0 .0 .0 .1)) (r .0 .0 .0 .0 .0 .0 .0 .0 .0 .0 .0 .1) in
+    let b = past 5 (past 4 (past 3 a (r .0 .0 .0 .0 .0 .0 .0 .0 .0 .0 .1)) (r .0 .0 .0 .0 .0 .0 .0 .0 .0 .1)) (r .0 .0 .0 .0 .0 .0 .0 .0 .1) in
+    let d = past 8 (past 7 (past 6 b (r .0 .0 .0 .0 .0 .0 .0 .1)) (r .0 .0 .0 .0 .0 .0 .1)) (r .0 .0 .0 .0 .0 .1) in
+    let e = past 11 (past 10 (past 9 d (r .0 .0 .0 .0 .1)) (r .0 .0 .0 .1)) (r .0 .0 .1) in
+    let z : 14 ≤ x .line = past 13 (past 12 e (r .0 .1)) (r .1) in
+    omega arith))
 
 pub good-row-spec : {M : Type 1} → statement M
 good-row-spec =

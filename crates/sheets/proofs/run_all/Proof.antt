@@ -28,7 +28,9 @@ next-line-requires : tie.Need-next-line-requires Inv-loop μ-loop
 next-line-requires c κs = tt
 
 loop-less : tie.Need-loop-less Inv-loop μ-loop
-loop-less c = let t = c .before .before .before .before in omega (arith, c .next-line .ensures, next-later (now (t .before .before .before .args .cases)) (t .before .loop .at) (t .loop-test .taken))
+loop-less c =
+    let t = c .before .before .before .before in
+    omega (arith, c .next-line .ensures, next-later (now (t .before .before .before .args .cases)) (t .before .loop .at) (t .loop-test .taken))
 
 loop-again : tie.Need-loop-again Inv-loop μ-loop
 loop-again c = tt

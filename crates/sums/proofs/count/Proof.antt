@@ -1,9 +1,7 @@
 use mathlib.Core.Path.{refl, sym, ap, _∙_}
-use mathlib.Core.Bool.{cond}
 use lib.Dec.{eqb}
 use borrow.Author.Tests.{ne-eqb}
-use Rattle.manual.specs.Wallet.{isNew, count}
-use Rattle.sums.specs.Counted.{withSigned, counted}
+use Rattle.sums.specs.Counted.{counted}
 use Rattle.sums.proofs.count.Statement.{statement}
 use Rattle.sums.proofs.count.Tie as tie
 
@@ -15,9 +13,6 @@ get8-requires c κs = tt
 
 with-wallet-requires : tie.Need-with-wallet-requires
 with-wallet-requires c κs = tt
-
-payload-requires : tie.Need-payload-requires
-payload-requires c κs = tt
 
 signed-requires : tie.Need-signed-requires
 signed-requires c κs = tt
@@ -35,10 +30,9 @@ returns c =
 returns-2 : tie.Need-returns-2
 unfolding counted
 returns-2 c =
-    let m = c .before .before in
+    let m = c .before in
     let i = m .before .before in
-    let s = i .before .before .before .before .args .s in
-    rw (sym (i .before .is-accepted .ensures) ∙ i .if1 .taken, sym (m .before .get8 .ensures) ∙ m .match .keys2) (c .signed .ensures ∙ ap (λ p. cond (isNew p) (withSigned (count p) s) s) (c .before .payload .ensures))
+    rw (sym (i .before .is-accepted .ensures) ∙ i .if1 .taken, sym (m .before .get8 .ensures) ∙ m .match .keys2) (c .signed .ensures)
 
 returns-3 : tie.Need-returns-3
 unfolding counted
@@ -53,7 +47,13 @@ returns-4 c =
     let i = c .before .before in
     let e = c .before .get8 .ensures in
     let r = c .match .rest in
-    rw (sym (i .before .is-accepted .ensures) ∙ i .if1 .taken, sym (ap (λ k. eqb k 0xF8) e) ∙ ne-eqb _ _ (r .0 .0 .1), sym (ap (λ k. eqb k 0xFC) e) ∙ ne-eqb _ _ (r .1), sym (ap (λ k. eqb k 0xFB) e) ∙ ne-eqb _ _ (r .0 .1)) refl
+    rw (
+      sym (i .before .is-accepted .ensures) ∙ i .if1 .taken,
+      sym (ap (λ k. eqb k 0xF8) e) ∙ ne-eqb _ _ (r .0 .0 .1),
+      sym (ap (λ k. eqb k 0xFC) e) ∙ ne-eqb _ _ (r .1),
+      sym (ap (λ k. eqb k 0xFB) e) ∙ ne-eqb _ _ (r .0 .1),
+    )
+    refl
 
 returns-5 : tie.Need-returns-5
 unfolding counted
@@ -66,7 +66,6 @@ count-spec =
     is-accepted-requires
     get8-requires
     with-wallet-requires
-    payload-requires
     signed-requires
     with-none-requires
     returns

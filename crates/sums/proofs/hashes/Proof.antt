@@ -1,6 +1,7 @@
 use Prim.Native.Nat.{_/_, _%_}
 use mathlib.Core.Path.{ap}
 use lib.ListN.{length}
+use Rattle.manual.specs.Words.{hashSize}
 use borrow.Author.Needs.{needs}
 use Rattle.sums.proofs.hashes.Statement.{statement}
 use Rattle.sums.proofs.hashes.Tie as tie
@@ -12,7 +13,7 @@ cast-result : tie.Need-cast-result
 cast-result c = search needs
 
 returns : tie.Need-returns
-returns c = ap (λ l. length l / 32 % 4294967296) (c .value .ensures)
+returns c = ap (λ l. length l / hashSize % 4294967296) (c .value .ensures)
 
 pub hashes-spec : {M : Type 1} → statement M
 hashes-spec = tie.close (tie.spec value-requires cast-result returns)

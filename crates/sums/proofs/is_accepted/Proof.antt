@@ -4,7 +4,7 @@ use denote.Ref.{now}
 use lib.ListN.{length}
 use borrow.Author.Tests.{le-leb, lt-leb}
 use Rattle.wire.specs.Wire.{num16}
-use Rattle.history.specs.Sums.{isDone, accepted}
+use Rattle.story.specs.Sums.{isDone, accepted}
 use Rattle.sums.proofs.Laws.{last-word}
 use borrow.Author.Needs.{needs}
 use Rattle.sums.proofs.is_accepted.Statement.{statement}

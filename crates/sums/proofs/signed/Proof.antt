@@ -1,31 +1,30 @@
-use mathlib.Core.Path.{refl, sym, ap, _∙_}
+use mathlib.Core.Path.{ap, _∙_}
 use denote.Ref.{now}
-use Rattle.manual.specs.Wallet.{count}
-use Rattle.sums.specs.Counted.{withSigned}
-use Rattle.sums.proofs.Laws.{whole-count}
+use Rattle.sums.specs.Counted.{withSigning}
+use Rattle.sums.proofs.Laws.{one-walk}
 use Rattle.sums.proofs.signed.Statement.{statement}
 use Rattle.sums.proofs.signed.Tie as tie
 
-is-new-requires : tie.Need-is-new-requires
-is-new-requires c κs = tt
+payload-requires : tie.Need-payload-requires
+payload-requires c κs = tt
 
-hashes-requires : tie.Need-hashes-requires
-hashes-requires c κs = tt
+none-requires : tie.Need-none-requires
+none-requires c κs = tt
 
-with-signed-requires : tie.Need-with-signed-requires
-with-signed-requires c κs = tt
+fill-requires : tie.Need-fill-requires
+fill-requires c κs = tt
+
+signed-by-requires : tie.Need-signed-by-requires
+signed-by-requires c κs = tt
 
 returns : tie.Need-returns
 returns c =
-    let h = c .before in
-    let i = h .before .before in
-    let x = i .before .before .args in
-    let w = c .with-signed .ensures ∙ ap (λ n. withSigned n (x .s)) (h .hashes .ensures) ∙ whole-count (count (now (x .p))) (x .s) in
-    rw (sym (i .is-new .ensures) ∙ h .before .if1 .taken) w
-
-returns-2 : tie.Need-returns-2
-returns-2 c = rw (sym (c .before .is-new .ensures) ∙ c .if1 .left) refl
+    let f = c .before .before in
+    let n = f .before .before in
+    let p = n .before in
+    let x = p .before .before .args in
+    c .signed-by .ensures
+    ∙ ap (λ v. withSigning v (x .s)) (one-walk (now (x .request)) (p .payload .ensures) (n .none .ensures) (f .fill .ensures))
 
 pub signed-spec : {M : Type 1} → statement M
-signed-spec =
-    tie.close (tie.spec is-new-requires hashes-requires with-signed-requires returns returns-2)
+signed-spec = tie.close (tie.spec payload-requires none-requires fill-requires signed-by-requires returns)

@@ -1,4 +1,3 @@
-use native.Mathlib.Omega.{arith}
 use borrow.Author.Tests.{eq-eqb, ne-eqb}
 use Rattle.manual.specs.Wallet.{curveName}
 use borrow.Author.Needs.{needs}
@@ -16,7 +15,10 @@ same-length c = search needs
 
 returns : tie.Need-returns
 unfolding curveName
-returns c = let i = c .before .before .before .before .before in rw (eq-eqb _ _ (i .if1 .taken)) (c .before .before .put-field .ensures, omega arith)
+returns c =
+    let c1 = c .before .before in
+    let c2 = c1 .before .before .before in
+    rw (eq-eqb _ _ (c2 .if1 .taken)) (c1 .put-field .ensures)
 
 slice-aggregate-put-field-2 : tie.Need-slice-aggregate-put-field-2
 slice-aggregate-put-field-2 c = search needs
@@ -29,7 +31,10 @@ same-length-2 c = search needs
 
 returns-2 : tie.Need-returns-2
 unfolding curveName
-returns-2 c = let i = c .before .before .before .before .before in rw (ne-eqb _ _ (i .if1 .left)) (c .before .before .put-field2 .ensures, omega arith)
+returns-2 c =
+    let c1 = c .before .before in
+    let c2 = c1 .before .before .before in
+    rw (ne-eqb _ _ (c2 .if1 .left)) (c1 .put-field2 .ensures)
 
 pub put-curve-spec : {M : Type 1} → statement M
 put-curve-spec =

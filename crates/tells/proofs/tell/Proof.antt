@@ -1,235 +1,24 @@
-use Rattle.manual.specs.Wallet.{readCard, createWallet, setPin, sign, purgeWallet}
-use Rattle.manual.specs.Checking.{checkWallet, verifyCard, validateCard}
-use Rattle.manual.specs.Storage.{readUserData, writeUserData, writeIssuerData, readIssuerData}
-use native.Mathlib.Omega.{arith}
-use denote.Ref.{now}
-use mathlib.Core.List.{[]}
-use Rattle.fields.proofs.Laws.{none, loosely}
-use Rattle.card.specs.Image.{decode}
+use Rattle.fields.specs.Fields.{each}
+use Rattle.wire.proofs.Laws.{wrote-more}
 use borrow.Author.Needs.{needs}
 use Rattle.tells.proofs.tell.Statement.{statement}
 use Rattle.tells.proofs.tell.Tie as tie
 
-enum-told : tie.Need-enum-told
-enum-told c = search needs
+put-cid-requires : tie.Need-put-cid-requires
+put-cid-requires c κs = tt
 
-front-requires : tie.Need-front-requires
-front-requires c κs = tt
-
-tell-read-requires : tie.Need-tell-read-requires
-tell-read-requires c κs = tt
-
-enum-told-2 : tie.Need-enum-told-2
-enum-told-2 c = search needs
-
-front-requires-2 : tie.Need-front-requires-2
-front-requires-2 c κs = tt
-
-tell-created-requires : tie.Need-tell-created-requires
-tell-created-requires c κs = tt
-
-enum-told-3 : tie.Need-enum-told-3
-enum-told-3 c = search needs
-
-front-requires-3 : tie.Need-front-requires-3
-front-requires-3 c κs = tt
-
-tell-checked-requires : tie.Need-tell-checked-requires
-tell-checked-requires c κs = tt
-
-enum-told-4 : tie.Need-enum-told-4
-enum-told-4 c = search needs
-
-enum-told-5 : tie.Need-enum-told-5
-enum-told-5 c = search needs
-
-tell-signed-requires : tie.Need-tell-signed-requires
-tell-signed-requires c κs = tt
-
-enum-told-6 : tie.Need-enum-told-6
-enum-told-6 c = search needs
-
-tell-verified-requires : tie.Need-tell-verified-requires
-tell-verified-requires c κs = tt
-
-enum-told-7 : tie.Need-enum-told-7
-enum-told-7 c = search needs
-
-front-requires-4 : tie.Need-front-requires-4
-front-requires-4 c κs = tt
-
-tell-validated-requires : tie.Need-tell-validated-requires
-tell-validated-requires c κs = tt
-
-enum-told-8 : tie.Need-enum-told-8
-enum-told-8 c = search needs
-
-tell-purged-requires : tie.Need-tell-purged-requires
-tell-purged-requires c κs = tt
-
-enum-told-9 : tie.Need-enum-told-9
-enum-told-9 c = search needs
-
-tell-user-requires : tie.Need-tell-user-requires
-tell-user-requires c κs = tt
-
-enum-told-10 : tie.Need-enum-told-10
-enum-told-10 c = search needs
-
-enum-told-11 : tie.Need-enum-told-11
-enum-told-11 c = search needs
-
-enum-told-12 : tie.Need-enum-told-12
-enum-told-12 c = search needs
-
-tell-issuer-requires : tie.Need-tell-issuer-requires
-tell-issuer-requires c κs = tt
+tell-own-requires : tie.Need-tell-own-requires
+tell-own-requires c κs = tt
 
 same-length : tie.Need-same-length
 same-length c = search needs
 
 returns : tie.Need-returns
-unfolding readCard
+unfolding each
 returns c =
-    let w = c .before .before in
-    let f = w .before .before in
-    rw (f .before .enum-told .given .1) (rw (f .front .ensures) at (w .tell-read .ensures))
-
-same-length-2 : tie.Need-same-length-2
-same-length-2 c = search needs
-
-returns-2 : tie.Need-returns-2
-unfolding createWallet
-returns-2 c =
-    let w = c .before .before in
-    let f = w .before .before in
-    rw (f .before .enum-told2 .given .1) (rw (f .front2 .ensures) at (w .tell-created .ensures [] [] []))
-
-same-length-3 : tie.Need-same-length-3
-same-length-3 c = search needs
-
-returns-3 : tie.Need-returns-3
-unfolding checkWallet
-returns-3 c =
-    let w = c .before .before in
-    let f = w .before .before in
-    rw (f .before .enum-told3 .given .1) (rw (f .front3 .ensures) at (w .tell-checked .ensures))
-
-returns-4 : tie.Need-returns-4
-unfolding setPin
-returns-4 c = rw (c .enum-told4 .given .1) (loosely 1200 (omega arith) none)
-
-same-length-4 : tie.Need-same-length-4
-same-length-4 c = search needs
-
-returns-5 : tie.Need-returns-5
-unfolding sign
-returns-5 c =
-    let w = c .before .before in
-    rw (w .before .before .enum-told5 .given .1) (w .tell-signed .ensures [] [] [])
-
-same-length-5 : tie.Need-same-length-5
-same-length-5 c = search needs
-
-returns-6 : tie.Need-returns-6
-unfolding verifyCard
-returns-6 c =
-    let w = c .before .before in
-    let x = w .before .before .before .before .before .before .before .before .before .args in
-    rw (w .before .before .enum-told6 .given .1) (w .tell-verified .ensures (decode (now (x .img)) .face) [])
-
-same-length-6 : tie.Need-same-length-6
-same-length-6 c = search needs
-
-returns-7 : tie.Need-returns-7
-unfolding validateCard
-returns-7 c =
-    let w = c .before .before in
-    let f = w .before .before in
-    rw (f .before .enum-told7 .given .1) (rw (f .front4 .ensures) at (w .tell-validated .ensures [] []))
-
-same-length-7 : tie.Need-same-length-7
-same-length-7 c = search needs
-
-returns-8 : tie.Need-returns-8
-unfolding purgeWallet
-returns-8 c =
-    let w = c .before .before in
-    rw (w .before .before .enum-told8 .given .1) (w .tell-purged .ensures [] [] [])
-
-same-length-8 : tie.Need-same-length-8
-same-length-8 c = search needs
-
-returns-9 : tie.Need-returns-9
-unfolding readUserData
-returns-9 c =
-    let w = c .before .before in
-    rw (w .before .before .enum-told9 .given .1) (w .tell-user .ensures [] [] [])
-
-returns-10 : tie.Need-returns-10
-unfolding writeUserData
-returns-10 c = rw (c .enum-told10 .given .1) (loosely 1200 (omega arith) none)
-
-returns-11 : tie.Need-returns-11
-unfolding writeIssuerData
-returns-11 c = rw (c .enum-told11 .given .1) (loosely 1200 (omega arith) none)
-
-same-length-9 : tie.Need-same-length-9
-same-length-9 c = search needs
-
-returns-12 : tie.Need-returns-12
-unfolding readIssuerData
-returns-12 c =
-    let w = c .before .before in
-    rw (w .before .before .enum-told12 .given .1) (w .tell-issuer .ensures [] [] [])
+    let c1 = c .before .before in
+    let c2 = c1 .before .before .before .before in
+    wrote-more (c2 .put-cid .ensures) (c1 .tell-own .ensures)
 
 pub tell-spec : {M : Type 1} → statement M
-tell-spec =
-    tie.close
-    (tie.spec
-    enum-told
-    front-requires
-    tell-read-requires
-    enum-told-2
-    front-requires-2
-    tell-created-requires
-    enum-told-3
-    front-requires-3
-    tell-checked-requires
-    enum-told-4
-    enum-told-5
-    tell-signed-requires
-    enum-told-6
-    tell-verified-requires
-    enum-told-7
-    front-requires-4
-    tell-validated-requires
-    enum-told-8
-    tell-purged-requires
-    enum-told-9
-    tell-user-requires
-    enum-told-10
-    enum-told-11
-    enum-told-12
-    tell-issuer-requires
-    same-length
-    returns
-    same-length-2
-    returns-2
-    same-length-3
-    returns-3
-    returns-4
-    same-length-4
-    returns-5
-    same-length-5
-    returns-6
-    same-length-6
-    returns-7
-    same-length-7
-    returns-8
-    same-length-8
-    returns-9
-    returns-10
-    returns-11
-    same-length-9
-    returns-12)
+tell-spec = tie.close (tie.spec put-cid-requires tell-own-requires same-length returns)

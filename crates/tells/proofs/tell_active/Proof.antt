@@ -1,11 +1,17 @@
-use native.Mathlib.Omega.{arith}
-use Rattle.fields.proofs.Laws.{field, loosely}
+use Rattle.fields.specs.Fields.{each}
+use Rattle.wire.proofs.Laws.{wrote-more}
 use borrow.Author.Needs.{needs}
 use Rattle.tells.proofs.tell_active.Statement.{statement}
 use Rattle.tells.proofs.tell_active.Tie as tie
 
+curve-requires : tie.Need-curve-requires
+curve-requires c κs = tt
+
 put-curve-requires : tie.Need-put-curve-requires
 put-curve-requires c κs = tt
+
+wallet-requires : tie.Need-wallet-requires
+wallet-requires c κs = tt
 
 put-number-requires : tie.Need-put-number-requires
 put-number-requires c κs = tt
@@ -17,13 +23,24 @@ same-length : tie.Need-same-length
 same-length c = search needs
 
 returns : tie.Need-returns
+unfolding each
 returns c =
-    let w3 = c .before .before in
-    let w2 = w3 .before .before .before .before in
-    let w1 = w2 .before .before .before .before in
-    loosely 200 (omega arith) (field 9 0x05 _ (w1 .put-curve .ensures .0) (w1 .put-curve .ensures .1) (field 4 0x63 _ (w2 .put-number .ensures) (omega arith) (w3 .tell-wallet .ensures)))
+    let c1 = c .before .before in
+    let c2 = c1 .before .before .before .before in
+    let c3 = c2 .before .before in
+    let c4 = c3 .before .before .before in
+    let c5 = c4 .before .before in
+    wrote-more (rw (c5 .curve .ensures) at (c4 .put-curve .ensures))
+    (wrote-more (rw (c3 .wallet .ensures) at (c2 .put-number .ensures)) (c1 .tell-wallet .ensures))
 
 pub tell-active-spec : {M : Type 1} → statement M
 tell-active-spec =
     tie.close
-    (tie.spec put-curve-requires put-number-requires tell-wallet-requires same-length returns)
+    (tie.spec
+    curve-requires
+    put-curve-requires
+    wallet-requires
+    put-number-requires
+    tell-wallet-requires
+    same-length
+    returns)

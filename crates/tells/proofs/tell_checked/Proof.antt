@@ -1,5 +1,5 @@
-use native.Mathlib.Omega.{arith}
-use Rattle.fields.proofs.Laws.{field, none, loosely}
+use Rattle.fields.specs.Fields.{each}
+use Rattle.wire.proofs.Laws.{wrote-more, wrote-one}
 use mathlib.Core.Path.{sym, _∙_}
 use borrow.Author.Needs.{needs}
 use Rattle.tells.proofs.tell_checked.Statement.{statement}
@@ -21,25 +21,25 @@ same-length : tie.Need-same-length
 same-length c = search needs
 
 returns : tie.Need-returns
+unfolding each
 returns c =
-    let w3 = c .before .before in
-    let i = w3 .before .before in
-    let h = i .before in
-    let w2 = h .before .before .before in
-    let w1 = w2 .before .before .before .before in
-    let e = sym (h .has .ensures) ∙ i .if1 .taken in
-    rw e (loosely 1200 (omega arith) (field 16 0x17 _ (w1 .put-part .ensures .0) (w1 .put-part .ensures .1) (field 64 0x61 _ (w2 .put-part2 .ensures .0) (w2 .put-part2 .ensures .1) (w3 .tell-key .ensures))))
+    let c1 = c .before .before in
+    let c2 = c1 .before .before in
+    let c3 = c2 .before in
+    let c4 = c3 .before .before .before in
+    let c5 = c4 .before .before .before .before in
+    rw (sym (c3 .has .ensures) ∙ c2 .if1 .taken) (wrote-more (c5 .put-part .ensures) (wrote-more (c4 .put-part2 .ensures) (c1 .tell-key .ensures)))
 
 same-length-2 : tie.Need-same-length-2
 same-length-2 c = search needs
 
 returns-2 : tie.Need-returns-2
+unfolding each
 returns-2 c =
-    let h = c .before in
-    let w2 = h .before .before .before in
-    let w1 = w2 .before .before .before .before in
-    let e = sym (h .has .ensures) ∙ c .if1 .left in
-    rw e (loosely 1200 (omega arith) (field 16 0x17 _ (w1 .put-part .ensures .0) (w1 .put-part .ensures .1) (field 64 0x61 _ (w2 .put-part2 .ensures .0) (w2 .put-part2 .ensures .1) none)))
+    let c1 = c .before in
+    let c2 = c1 .before .before .before in
+    let c3 = c2 .before .before .before .before in
+    rw (sym (c1 .has .ensures) ∙ c .if1 .left) (wrote-more (c3 .put-part .ensures) (wrote-one (c2 .put-part2 .ensures)))
 
 pub tell-checked-spec : {M : Type 1} → statement M
 tell-checked-spec =

@@ -1,9 +1,12 @@
-use native.Mathlib.Omega.{arith}
-use Rattle.fields.proofs.Laws.{field, none, loosely}
+use Rattle.fields.specs.Fields.{each}
+use Rattle.wire.proofs.Laws.{wrote-more, wrote-one}
 use Rattle.manual.specs.Wallet.{createWallet}
 use borrow.Author.Needs.{needs}
 use Rattle.tells.proofs.tell_created.Statement.{statement}
 use Rattle.tells.proofs.tell_created.Tie as tie
+
+wallet-requires : tie.Need-wallet-requires
+wallet-requires c κs = tt
 
 put-byte-requires : tie.Need-put-byte-requires
 put-byte-requires c κs = tt
@@ -15,11 +18,13 @@ same-length : tie.Need-same-length
 same-length c = search needs
 
 returns : tie.Need-returns
-unfolding createWallet
+unfolding createWallet each
 returns c =
-    let w2 = c .before .before in
-    let w1 = w2 .before .before .before .before .before in
-    λ p d a. loosely 1200 (omega arith) (field 1 0x02 _ (w1 .put-byte .ensures) (omega arith) (field 65 0x60 _ (w2 .put-key .ensures .0) (w2 .put-key .ensures .1) none))
+    let c1 = c .before .before in
+    let c2 = c1 .before .before .before .before in
+    let c3 = c2 .before .before in
+    λ v d a. wrote-more (rw (c3 .wallet .ensures) at (c2 .put-byte .ensures)) (wrote-one (c1 .put-key .ensures))
 
 pub tell-created-spec : {M : Type 1} → statement M
-tell-created-spec = tie.close (tie.spec put-byte-requires put-key-requires same-length returns)
+tell-created-spec =
+    tie.close (tie.spec wallet-requires put-byte-requires put-key-requires same-length returns)

@@ -1,11 +1,14 @@
-use native.Mathlib.Omega.{arith}
-use Rattle.fields.proofs.Laws.{field, none, loosely}
-use mathlib.Core.Path.{sym, ap, _∙_}
+use Rattle.fields.specs.Fields.{each}
+use Rattle.wire.proofs.Laws.{wrote-more, wrote-one}
 use borrow.Author.Tests.{eq-eqb, ne-eqb}
+use mathlib.Core.Path.{sym, ap, _∙_}
 use lib.ListN.{length}
 use borrow.Author.Needs.{needs}
 use Rattle.tells.proofs.tell_key.Statement.{statement}
 use Rattle.tells.proofs.tell_key.Tie as tie
+
+counters-requires : tie.Need-counters-requires
+counters-requires c κs = tt
 
 put-number-requires : tie.Need-put-number-requires
 put-number-requires c κs = tt
@@ -13,50 +16,55 @@ put-number-requires c κs = tt
 value-requires : tie.Need-value-requires
 value-requires c κs = tt
 
-put-part-requires : tie.Need-put-part-requires
-put-part-requires c κs = tt
+put-card-signature-requires : tie.Need-put-card-signature-requires
+put-card-signature-requires c κs = tt
 
 same-length : tie.Need-same-length
 same-length c = search needs
 
 returns : tie.Need-returns
+unfolding each
 returns c =
-    let w2 = c .before .before in
-    let i = w2 .before .before in
-    let v = i .before in
-    let w1 = v .before .before .before in
-    rw (eq-eqb _ _ (ap length (sym (v .value .ensures)) ∙ i .if1 .taken))
-    (loosely 200 (omega arith) (field 4 0x64 _ (w1 .put-number .ensures) (omega arith) (field 64 0x04 _ (w2 .put-part .ensures .0) (w2 .put-part .ensures .1) none)))
+    let c1 = c .before .before in
+    let c2 = c1 .before .before in
+    let c3 = c2 .before in
+    let c4 = c3 .before .before .before in
+    let c5 = c4 .before .before in
+    rw (eq-eqb _ _ (ap length (sym (c3 .value .ensures)) ∙ c2 .if1 .taken))
+    (wrote-more (rw (c5 .counters .ensures) at (c4 .put-number .ensures)) (wrote-one (c1 .put-card-signature .ensures)))
 
-put-part-requires-2 : tie.Need-put-part-requires-2
-put-part-requires-2 c κs = tt
+put-part-requires : tie.Need-put-part-requires
+put-part-requires c κs = tt
 
-put-part-requires-3 : tie.Need-put-part-requires-3
-put-part-requires-3 c κs = tt
+put-card-signature-requires-2 : tie.Need-put-card-signature-requires-2
+put-card-signature-requires-2 c κs = tt
 
 same-length-2 : tie.Need-same-length-2
 same-length-2 c = search needs
 
 returns-2 : tie.Need-returns-2
+unfolding each
 returns-2 c =
-    let w3 = c .before .before in
-    let w2 = w3 .before .before .before .before in
-    let i = w2 .before .before in
-    let v = i .before in
-    let w1 = v .before .before .before in
-    rw (ne-eqb _ _ (λ z. i .if1 .left (ap length (v .value .ensures) ∙ z)))
-    (loosely 200 (omega arith) (field 4 0x64 _ (w1 .put-number .ensures) (omega arith) (field 16 0x15 _ (w2 .put-part2 .ensures .0) (w2 .put-part2 .ensures .1) (field 64 0x04 _ (w3 .put-part3 .ensures .0) (w3 .put-part3 .ensures .1) none))))
+    let c1 = c .before .before in
+    let c2 = c1 .before .before .before .before in
+    let c3 = c2 .before .before in
+    let c4 = c3 .before in
+    let c5 = c4 .before .before .before in
+    let c6 = c5 .before .before in
+    rw (ne-eqb _ _ (λ z. c3 .if1 .left (ap length (c4 .value .ensures) ∙ z)))
+    (wrote-more (rw (c6 .counters .ensures) at (c5 .put-number .ensures)) (wrote-more (c2 .put-part .ensures) (wrote-one (c1 .put-card-signature2 .ensures))))
 
 pub tell-key-spec : {M : Type 1} → statement M
 tell-key-spec =
     tie.close
     (tie.spec
+    counters-requires
     put-number-requires
     value-requires
-    put-part-requires
+    put-card-signature-requires
     same-length
     returns
-    put-part-requires-2
-    put-part-requires-3
+    put-part-requires
+    put-card-signature-requires-2
     same-length-2
     returns-2)

@@ -1,6 +1,5 @@
-use mathlib.Core.Path.{_∙_, sym}
-use native.Mathlib.Omega.{arith}
-use Rattle.fields.proofs.Laws.{field, none, loosely}
+use Rattle.fields.specs.Fields.{each}
+use Rattle.wire.proofs.Laws.{wrote-none, wrote-more, wrote-one}
 use borrow.Author.Tests.{eq-eqb, ne-eqb}
 use borrow.Author.Needs.{needs}
 use Rattle.tells.proofs.tell_note.Statement.{statement}
@@ -9,35 +8,43 @@ use Rattle.tells.proofs.tell_note.Tie as tie
 note-requires : tie.Need-note-requires
 note-requires c κs = tt
 
-size-requires : tie.Need-size-requires
-size-requires c κs = tt
-
 returns : tie.Need-returns
+unfolding each
 returns c =
-    let n = c .before .before in
-    rw (← n .note .ensures .1, eq-eqb _ _ (sym (c .before .size .ensures) ∙ c .if1 .taken)) (loosely 600 (omega arith) none)
+    let c1 = c .before in
+    rw (← c1 .note .ensures) (rw (eq-eqb _ _ (c .if1 .taken)) wrote-none)
 
-put-block-requires : tie.Need-put-block-requires
-put-block-requires c κs = tt
+put-field-requires : tie.Need-put-field-requires
+put-field-requires c κs = tt
 
-signature-requires : tie.Need-signature-requires
-signature-requires c κs = tt
+note-signature-requires : tie.Need-note-signature-requires
+note-signature-requires c κs = tt
 
-put-signature-requires : tie.Need-put-signature-requires
-put-signature-requires c κs = tt
+put-field-requires-2 : tie.Need-put-field-requires-2
+put-field-requires-2 c κs = tt
 
 same-length : tie.Need-same-length
 same-length c = search needs
 
 returns-2 : tie.Need-returns-2
+unfolding each
 returns-2 c =
-    let w2 = c .before .before in
-    let s = w2 .before .before in
-    let w1 = s .before .before .before in
-    let i = w1 .before .before in
-    let n = i .before .before in
-    rw (← s .signature .ensures, ← n .note .ensures .1, ne-eqb _ _ (λ e. i .if1 .left (i .before .size .ensures ∙ e)))
-    (loosely 600 (omega arith) (field 512 0x32 _ (w1 .put-block .ensures .0) (w1 .put-block .ensures .1) (field 64 0x33 _ (w2 .put-signature .ensures .0) (omega (arith, w2 .put-signature .ensures .1)) none)))
+    let c1 = c .before .before in
+    let c2 = c1 .before in
+    let c3 = c2 .before .before .before .before in
+    let c4 = c3 .before .before in
+    let c5 = c4 .before in
+    rw (← c5 .note .ensures, ← c2 .note-signature .ensures)
+    (rw (ne-eqb _ _ (c4 .if1 .left)) (wrote-more (c3 .put-field .ensures) (wrote-one (c1 .put-field2 .ensures))))
 
 pub tell-note-spec : {M : Type 1} → statement M
-tell-note-spec = tie.close (tie.spec note-requires size-requires returns put-block-requires signature-requires put-signature-requires same-length returns-2)
+tell-note-spec =
+    tie.close
+    (tie.spec
+    note-requires
+    returns
+    put-field-requires
+    note-signature-requires
+    put-field-requires-2
+    same-length
+    returns-2)

@@ -1,5 +1,5 @@
-use native.Mathlib.Omega.{arith}
-use Rattle.fields.proofs.Laws.{field, none, loosely}
+use Rattle.fields.specs.Fields.{each}
+use Rattle.wire.proofs.Laws.{wrote-one}
 use Rattle.manual.specs.Wallet.{purgeWallet}
 use borrow.Author.Needs.{needs}
 use Rattle.tells.proofs.tell_purged.Statement.{statement}
@@ -15,10 +15,11 @@ same-length : tie.Need-same-length
 same-length c = search needs
 
 returns : tie.Need-returns
-unfolding purgeWallet
+unfolding purgeWallet each
 returns c =
-    let w = c .before .before in
-    λ p d a. rw (← w .before .before .wallet .ensures) (loosely 1200 (omega arith) (field 1 0x02 _ (w .put-byte .ensures) (omega arith) none))
+    let c1 = c .before .before in
+    let c2 = c1 .before .before in
+    λ v d a. wrote-one (rw (c2 .wallet .ensures) at (c1 .put-byte .ensures))
 
 pub tell-purged-spec : {M : Type 1} → statement M
 tell-purged-spec = tie.close (tie.spec wallet-requires put-byte-requires same-length returns)

@@ -1,12 +1,18 @@
-use native.Mathlib.Omega.{arith}
-use Rattle.fields.proofs.Laws.{field, none, loosely}
+use Rattle.fields.specs.Fields.{each}
+use Rattle.wire.proofs.Laws.{wrote-more, wrote-one}
 use borrow.Author.Tests.{eq-eqb, ne-eqb}
 use borrow.Author.Needs.{needs}
 use Rattle.tells.proofs.tell_read.Statement.{statement}
 use Rattle.tells.proofs.tell_read.Tie as tie
 
+wallet-requires : tie.Need-wallet-requires
+wallet-requires c κs = tt
+
 put-byte-requires : tie.Need-put-byte-requires
 put-byte-requires c κs = tt
+
+flags-requires : tie.Need-flags-requires
+flags-requires c κs = tt
 
 tell-active-requires : tie.Need-tell-active-requires
 tell-active-requires c κs = tt
@@ -15,11 +21,14 @@ same-length : tie.Need-same-length
 same-length c = search needs
 
 returns : tie.Need-returns
+unfolding each
 returns c =
-    let w2 = c .before .before in
-    let i = w2 .before .before in
-    let w1 = i .before .before .before .before in
-    rw (eq-eqb _ _ (i .if1 .taken)) (loosely 1200 (omega arith) (field 1 0x02 _ (w1 .put-byte .ensures) (omega arith) (w2 .tell-active .ensures)))
+    let c1 = c .before .before in
+    let c2 = c1 .before .before in
+    let c3 = c2 .before .before in
+    let c4 = c3 .before .before .before in
+    let c5 = c4 .before .before in
+    rw (← c3 .flags .ensures) (rw (eq-eqb _ _ (c2 .if1 .taken)) (wrote-more (rw (c5 .wallet .ensures) at (c4 .put-byte .ensures)) (c1 .tell-active .ensures)))
 
 put-byte-requires-2 : tie.Need-put-byte-requires-2
 put-byte-requires-2 c κs = tt
@@ -28,17 +37,23 @@ same-length-2 : tie.Need-same-length-2
 same-length-2 c = search needs
 
 returns-2 : tie.Need-returns-2
+unfolding each
 returns-2 c =
-    let w2 = c .before .before in
-    let i = w2 .before .before in
-    let w1 = i .before .before .before .before in
-    rw (ne-eqb _ _ (i .if1 .left)) (loosely 1200 (omega arith) (field 1 0x02 _ (w1 .put-byte .ensures) (omega arith) (field 1 0x3A _ (w2 .put-byte2 .ensures) (omega arith) none)))
+    let c1 = c .before .before in
+    let c2 = c1 .before .before in
+    let c3 = c2 .before .before in
+    let c4 = c3 .before .before .before in
+    let c5 = c4 .before .before in
+    rw (← c3 .flags .ensures)
+    (rw (ne-eqb _ _ (c2 .if1 .left)) (wrote-more (rw (c5 .wallet .ensures) at (c4 .put-byte .ensures)) (wrote-one (c1 .put-byte2 .ensures))))
 
 pub tell-read-spec : {M : Type 1} → statement M
 tell-read-spec =
     tie.close
     (tie.spec
+    wallet-requires
     put-byte-requires
+    flags-requires
     tell-active-requires
     same-length
     returns

@@ -1,5 +1,5 @@
-use native.Mathlib.Omega.{arith}
-use Rattle.fields.proofs.Laws.{field, none, loosely}
+use Rattle.fields.specs.Fields.{each}
+use Rattle.wire.proofs.Laws.{wrote-more, wrote-one}
 use Rattle.manual.specs.Wallet.{sign}
 use borrow.Author.Needs.{needs}
 use Rattle.tells.proofs.tell_signed.Statement.{statement}
@@ -21,13 +21,21 @@ same-length : tie.Need-same-length
 same-length c = search needs
 
 returns : tie.Need-returns
-unfolding sign
+unfolding sign each
 returns c =
-    let w3 = c .before .before in
-    let w2 = w3 .before .before .before .before in
-    let g = w2 .before .before in
-    let w1 = g .before .before .before in
-    λ p d a. rw (← g .wallet .ensures) (loosely 1200 (omega arith) (field 640 0x61 _ (w1 .put-last .ensures .0) (w1 .put-last .ensures .1) (field 4 0x62 _ (w2 .put-number .ensures) (omega arith) (field 4 0x63 _ (w3 .put-number2 .ensures) (omega arith) none))))
+    let c1 = c .before .before in
+    let c2 = c1 .before .before .before .before in
+    let c3 = c2 .before .before in
+    let c4 = c3 .before .before .before in
+    λ v d a. rw (← c3 .wallet .ensures) (wrote-more (c4 .put-last .ensures) (wrote-more (c2 .put-number .ensures) (wrote-one (c1 .put-number2 .ensures))))
 
 pub tell-signed-spec : {M : Type 1} → statement M
-tell-signed-spec = tie.close (tie.spec put-last-requires wallet-requires put-number-requires put-number-requires-2 same-length returns)
+tell-signed-spec =
+    tie.close
+    (tie.spec
+    put-last-requires
+    wallet-requires
+    put-number-requires
+    put-number-requires-2
+    same-length
+    returns)

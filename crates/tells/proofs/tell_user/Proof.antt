@@ -1,5 +1,6 @@
-use native.Mathlib.Omega.{arith}
-use Rattle.fields.proofs.Laws.{field, none, loosely, told-append}
+use Rattle.fields.specs.Fields.{each}
+use Rattle.fields.proofs.Laws.{each-append}
+use Rattle.wire.proofs.Laws.{wrote-more, wrote-one, wrote-append}
 use Rattle.manual.specs.Storage.{readUserData}
 use borrow.Author.Needs.{needs}
 use Rattle.tells.proofs.tell_user.Statement.{statement}
@@ -30,16 +31,29 @@ same-length : tie.Need-same-length
 same-length c = search needs
 
 returns : tie.Need-returns
-unfolding readUserData
+unfolding readUserData each
 returns c =
-    let w4 = c .before .before in
-    let w3 = w4 .before .before .before .before in
-    let g = w3 .before .before in
-    let w2 = g .before .before .before in
-    let b = w2 .before .before in
-    let w1 = b .before .before .before in
-    let a = w1 .before .before in
-    λ p d z. rw (← g .counters .ensures, ← b .protected .ensures .1, ← a .user .ensures .1) (loosely 1200 (omega arith) (told-append (w1 .tell-held .ensures) (told-append (w2 .tell-held2 .ensures) (field 4 0x2C _ (w3 .put-number .ensures) (omega arith) (field 4 0x2D _ (w4 .put-number2 .ensures) (omega arith) none)))))
+    let c1 = c .before .before in
+    let c2 = c1 .before .before .before .before in
+    let c3 = c2 .before .before in
+    let c4 = c3 .before .before .before in
+    let c5 = c4 .before .before in
+    let c6 = c5 .before .before .before in
+    let c7 = c6 .before .before in
+    λ v d a. rw (each-append, each-append, ← c3 .counters .ensures, ← c5 .protected .ensures, ← c7 .user .ensures)
+    (wrote-append (c6 .tell-held .ensures)
+    (wrote-append (c4 .tell-held2 .ensures) (wrote-more (c2 .put-number .ensures) (wrote-one (c1 .put-number2 .ensures)))))
 
 pub tell-user-spec : {M : Type 1} → statement M
-tell-user-spec = tie.close (tie.spec user-requires tell-held-requires protected-requires tell-held-requires-2 counters-requires put-number-requires put-number-requires-2 same-length returns)
+tell-user-spec =
+    tie.close
+    (tie.spec
+    user-requires
+    tell-held-requires
+    protected-requires
+    tell-held-requires-2
+    counters-requires
+    put-number-requires
+    put-number-requires-2
+    same-length
+    returns)

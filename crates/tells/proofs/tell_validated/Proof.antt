@@ -1,25 +1,31 @@
-use native.Mathlib.Omega.{arith}
-use Rattle.fields.proofs.Laws.{field, none, loosely}
+use Rattle.fields.specs.Fields.{each}
+use Rattle.wire.proofs.Laws.{wrote-more, wrote-one}
 use Rattle.manual.specs.Checking.{validateCard}
 use borrow.Author.Needs.{needs}
 use Rattle.tells.proofs.tell_validated.Statement.{statement}
 use Rattle.tells.proofs.tell_validated.Tie as tie
 
+counters-requires : tie.Need-counters-requires
+counters-requires c κs = tt
+
 put-short-requires : tie.Need-put-short-requires
 put-short-requires c κs = tt
 
-put-part-requires : tie.Need-put-part-requires
-put-part-requires c κs = tt
+put-card-signature-requires : tie.Need-put-card-signature-requires
+put-card-signature-requires c κs = tt
 
 same-length : tie.Need-same-length
 same-length c = search needs
 
 returns : tie.Need-returns
-unfolding validateCard
+unfolding validateCard each
 returns c =
-    let w2 = c .before .before in
-    let w1 = w2 .before .before .before .before in
-    λ p d. loosely 1200 (omega arith) (field 2 0x18 _ (w1 .put-short .ensures) (omega arith) (field 64 0x04 _ (w2 .put-part .ensures .0) (w2 .put-part .ensures .1) none))
+    let c1 = c .before .before in
+    let c2 = c1 .before .before .before .before in
+    let c3 = c2 .before .before in
+    λ v d. wrote-more (rw (c3 .counters .ensures) at (c2 .put-short .ensures)) (wrote-one (c1 .put-card-signature .ensures))
 
 pub tell-validated-spec : {M : Type 1} → statement M
-tell-validated-spec = tie.close (tie.spec put-short-requires put-part-requires same-length returns)
+tell-validated-spec =
+    tie.close
+    (tie.spec counters-requires put-short-requires put-card-signature-requires same-length returns)

@@ -1,9 +1,12 @@
-use native.Mathlib.Omega.{arith}
-use Rattle.fields.proofs.Laws.{field, none, loosely}
+use Rattle.fields.specs.Fields.{each}
+use Rattle.wire.proofs.Laws.{wrote-none, wrote-more, wrote-one}
 use borrow.Author.Tests.{eq-eqb, ne-eqb}
 use borrow.Author.Needs.{needs}
 use Rattle.tells.proofs.tell_wallet.Statement.{statement}
 use Rattle.tells.proofs.tell_wallet.Tie as tie
+
+wallet-requires : tie.Need-wallet-requires
+wallet-requires c κs = tt
 
 put-key-requires : tie.Need-put-key-requires
 put-key-requires c κs = tt
@@ -15,15 +18,21 @@ same-length : tie.Need-same-length
 same-length c = search needs
 
 returns : tie.Need-returns
+unfolding each
 returns c =
-    let w2 = c .before .before in
-    let w1 = w2 .before .before .before .before in
-    let i = w1 .before .before .before in
-    rw (eq-eqb _ _ (i .if1 .taken)) (loosely 100 (omega arith) (field 65 0x60 _ (w1 .put-key .ensures .0) (w1 .put-key .ensures .1) (field 4 0x62 _ (w2 .put-number .ensures) (omega arith) none)))
+    let c1 = c .before .before in
+    let c2 = c1 .before .before .before .before in
+    let c3 = c2 .before .before in
+    let c4 = c3 .before .before in
+    rw (← c4 .wallet .ensures) (rw (eq-eqb _ _ (c3 .if1 .taken)) (wrote-more (c2 .put-key .ensures) (wrote-one (c1 .put-number .ensures))))
 
 returns-2 : tie.Need-returns-2
-returns-2 c = rw (ne-eqb _ _ (c .if1 .left)) (loosely 100 (omega arith) none)
+unfolding each
+returns-2 c =
+    let c1 = c .before .before in
+    rw (← c1 .wallet .ensures) (rw (ne-eqb _ _ (c .if1 .left)) wrote-none)
 
 pub tell-wallet-spec : {M : Type 1} → statement M
 tell-wallet-spec =
-    tie.close (tie.spec put-key-requires put-number-requires same-length returns returns-2)
+    tie.close
+    (tie.spec wallet-requires put-key-requires put-number-requires same-length returns returns-2)

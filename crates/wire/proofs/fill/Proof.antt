@@ -29,7 +29,8 @@ returns c =
     let s = i .before .before .before in
     let x = s .args in
     let h : length (now (x .v)) ≤ x .n = i .if1 .taken in (
-      w .wipe .ensures .0 ∙ ap₂ (λ d e. put d e (replicate (x .n - length (now (x .v))) 0)) (k .copy .ensures .0) (k .copy .ensures .1) ∙ put-pad (now (x .out)) (x .at) (x .n) (now (x .v)) h (s .pre),
+      w .wipe .ensures .0 ∙ ap₂ (λ d e. put d e (replicate (x .n - length (now (x .v))) 0)) (k .copy .ensures .0) (k .copy .ensures .1)
+          ∙ put-pad (now (x .out)) (x .at) (x .n) (now (x .v)) h (s .pre),
       omega (arith, h, w .wipe .ensures .1, k .copy .ensures .1),
     )
 

@@ -22,7 +22,8 @@ slice-aggregate-result : tie.Need-slice-aggregate-result
 slice-aggregate-result c = search needs
 
 returns : tie.Need-returns
-returns c = let x = c .before .before .args in let h : length (drop (x .at) (now (x .s))) ≤ length (now (x .s)) - x .at = simp length-drop (omega arith) in take-all (length (now (x .s)) - x .at) (drop (x .at) (now (x .s))) h
+returns c = let x = c .before .before .args in let h : length (drop (x .at) (now (x .s))) ≤ length (now (x .s)) - x .at = simp length-drop (omega arith) in
+    take-all (length (now (x .s)) - x .at) (drop (x .at) (now (x .s))) h
 
 returns-2 : tie.Need-returns-2
 returns-2 c = sym (drop-of-length-le _ (le-of-lt (c .before .if1 .left)))

@@ -38,8 +38,11 @@ loop-again c =
     let x = p .before .args in
     let z : List ℕ = replicate (x .n) 0 in
     let l : length z ≡ x .n = length-replicate (x .n) 0 in
-    let e : getD z (p .loop .i) 0 ≡ 0 = getD-replicate (x .n) (p .loop .i) 0 0 (omega arith) in
-    (omega arith, simp length-set (omega arith), rw (p .loop .inv .2, add-one) (rw e at (paste-suc (now (x .out)) (x .at) z (p .loop .i) 0 (omega arith) (omega arith))))
+    let e : getD z (p .loop .i) 0 ≡ 0 = getD-replicate (x .n) (p .loop .i) 0 0 (omega arith) in (
+      omega arith,
+      simp length-set (omega arith),
+      rw (p .loop .inv .2, add-one) (rw e at (paste-suc (now (x .out)) (x .at) z (p .loop .i) 0 (omega arith) (omega arith))),
+    )
 
 add-result : tie.Need-add-result Inv-loop μ-loop
 add-result c = omega arith

@@ -1,57 +1,64 @@
-use mathlib.Core.Path.{refl, ap, _∙_}
+use mathlib.Core.Path.{ap, _∙_, sym}
+use lib.ListN.{drop}
 use lib.Dec.{leb}
-use Rattle.wire.specs.Wire.{num16}
-use Rattle.card.specs.Image.{decBlock, decIssuer}
-use Rattle.card.specs.Valid.{okBlock, okIssuer}
-use Rattle.image.proofs.Laws.{both-of, either-of, room-of}
+use borrow.Author.Tests.{le-leb, lt-leb}
+use Rattle.wire.specs.Wire.{allZero}
+use Rattle.card.specs.Valid.{okIssuer}
+use Rattle.image.proofs.Laws.{spared, made}
+use borrow.Author.Needs.{needs}
 use Rattle.image.proofs.valid.issuer_ok.Statement.{statement}
 use Rattle.image.proofs.valid.issuer_ok.Tie as tie
 
-part-requires : tie.Need-part-requires
-part-requires c κs = tt
-
-part-requires-2 : tie.Need-part-requires-2
-part-requires-2 c κs = tt
+cast-at : tie.Need-cast-at
+cast-at c = search needs
 
 get16-requires : tie.Need-get16-requires
 get16-requires c κs = tt
 
-zero-from-requires : tie.Need-zero-from-requires
-zero-from-requires c κs = tt
-
-either-requires : tie.Need-either-requires
-either-requires c κs = tt
-
 block-ok-requires : tie.Need-block-ok-requires
 block-ok-requires c κs = tt
+
+returns : tie.Need-returns
+unfolding okIssuer
+returns c =
+    let i = c .before in
+    spared _ (c .block-ok .ensures) (ap (leb 1) (sym (i .before .get16 .ensures)) ∙ le-leb _ _ (i .if1 .taken))
+
+add-part : tie.Need-add-part
+add-part c = search needs
+
+part-requires : tie.Need-part-requires
+part-requires c κs = tt
+
+block-ok-requires-2 : tie.Need-block-ok-requires-2
+block-ok-requires-2 c κs = tt
+
+zero-from-requires : tie.Need-zero-from-requires
+zero-from-requires c κs = tt
 
 both-requires : tie.Need-both-requires
 both-requires c κs = tt
 
-returns : tie.Need-returns
-unfolding okIssuer decIssuer decBlock
-returns c =
-    let b = c .before in
-    let e = b .before in
-    let z = e .before in
-    let g = z .before in
-    let q = g .before in
-    let p = q .before in
-    let s = p .before .before .args .s in
-    both-of (c .both .ensures) (b .block-ok .ensures ∙ ap (λ x. okBlock (decBlock x)) (p .part .ensures))
-    (either-of (e .either .ensures)
-    (ap (leb 1) (g .get16 .ensures ∙ ap (λ x. num16 x 0) (p .part .ensures)))
-    (room-of {m = 0} 64 514 (s .now) (z .zero-from .ensures) refl (q .part2 .ensures)))
+returns-2 : tie.Need-returns-2
+unfolding okIssuer
+returns-2 c =
+    let z = c .before in
+    let b = z .before in
+    let i = b .before .before in
+    made (c .both .ensures) (b .block-ok2 .ensures) (ap (leb 1) (sym (i .before .get16 .ensures)) ∙ lt-leb _ _ (i .if1 .left))
+    (z .zero-from .ensures ∙ ap (λ x. allZero (drop 0 x)) (b .before .part .ensures))
 
 pub issuer-ok-spec : {M : Type 1} → statement M
 issuer-ok-spec =
     tie.close
     (tie.spec
-    part-requires
-    part-requires-2
+    cast-at
     get16-requires
-    zero-from-requires
-    either-requires
     block-ok-requires
+    returns
+    add-part
+    part-requires
+    block-ok-requires-2
+    zero-from-requires
     both-requires
-    returns)
+    returns-2)

@@ -1,16 +1,26 @@
-use mathlib.Core.Path.{sym, ap, ap₂, _∙_}
+use mathlib.Core.Path.{ap, ap₂, _∙_}
 use mathlib.Core.Bool.{not}
-use lib.ListN.{getD}
+use lib.ListN.{drop, getD}
 use lib.Dec.{eqb}
-use Rattle.card.specs.Image.{decKey}
+use Rattle.wire.specs.Wire.{allZero}
+use Rattle.card.specs.Layout.{keyRoom}
 use Rattle.card.specs.Valid.{okKey}
-use Rattle.image.proofs.Laws.{both-of, either-of, grab-first, room-of}
+use Rattle.image.proofs.Laws.{both-of, either-of}
 use borrow.Author.Needs.{needs}
 use Rattle.image.proofs.valid.key_ok.Statement.{statement}
 use Rattle.image.proofs.valid.key_ok.Tie as tie
 
+cast-get8 : tie.Need-cast-get8
+cast-get8 c = search needs
+
 get8-requires : tie.Need-get8-requires
 get8-requires c κs = tt
+
+cast-size : tie.Need-cast-size
+cast-size c = search needs
+
+add-part : tie.Need-add-part
+add-part c = search needs
 
 part-requires : tie.Need-part-requires
 part-requires c κs = tt
@@ -27,9 +37,6 @@ either-requires c κs = tt
 key-size-requires : tie.Need-key-size-requires
 key-size-requires c κs = tt
 
-cast-zero-from : tie.Need-cast-zero-from
-cast-zero-from c = search needs
-
 zero-from-requires : tie.Need-zero-from-requires
 zero-from-requires c κs = tt
 
@@ -40,7 +47,7 @@ both-requires-2 : tie.Need-both-requires-2
 both-requires-2 c κs = tt
 
 returns : tie.Need-returns
-unfolding okKey decKey
+unfolding okKey
 returns c =
     let b = c .before in
     let z = b .before in
@@ -50,25 +57,26 @@ returns c =
     let u = f .before in
     let p = u .before in
     let g = p .before in
-    let s = g .before .before .args .s in
     both-of (c .both2 .ensures) (ap₂ eqb (g .get8 .ensures) (k .key-size .ensures))
     (both-of (b .both .ensures)
     (either-of (e .either .ensures)
-    (u .unless .ensures ∙ ap (λ n. not (eqb n 65)) (g .get8 .ensures))
-    (ap (λ n. eqb n 4) (f .get82 .ensures ∙ ap (λ x. getD x 0 0) (p .part .ensures) ∙ sym (grab-first 65 1 (s .now)))))
-    (room-of 65 1 (s .now) (z .zero-from .ensures) (g .get8 .ensures) (p .part .ensures)))
+    (u .unless .ensures ∙ ap (λ n. not (eqb n keyRoom)) (g .get8 .ensures))
+    (ap (λ n. eqb n 4) (f .get82 .ensures ∙ ap (λ x. getD x 0 0) (p .part .ensures))))
+    (z .zero-from .ensures ∙ ap₂ (λ n x. allZero (drop n x)) (g .get8 .ensures) (p .part .ensures)))
 
 pub key-ok-spec : {M : Type 1} → statement M
 key-ok-spec =
     tie.close
     (tie.spec
+    cast-get8
     get8-requires
+    cast-size
+    add-part
     part-requires
     unless-requires
     get8-requires-2
     either-requires
     key-size-requires
-    cast-zero-from
     zero-from-requires
     both-requires
     both-requires-2

@@ -1,21 +1,29 @@
-use mathlib.Core.Path.{ap}
 use Prim.Native.Nat.{_*_}
+use mathlib.Core.Path.{ap, ap₂, _∙_}
+use lib.ListN.{drop}
 use lib.Dec.{leb}
-use Rattle.card.specs.Image.{decLast}
+use Rattle.wire.specs.Wire.{allZero}
+use Rattle.card.specs.Layout.{signatureSize, mostHashes}
 use Rattle.card.specs.Valid.{okLast}
-use Rattle.image.proofs.Laws.{both-of, room-of}
+use Rattle.image.proofs.Laws.{both-of}
 use borrow.Author.Needs.{needs}
 use Rattle.image.proofs.valid.last_ok.Statement.{statement}
 use Rattle.image.proofs.valid.last_ok.Tie as tie
 
+cast-get8 : tie.Need-cast-get8
+cast-get8 c = search needs
+
 get8-requires : tie.Need-get8-requires
 get8-requires c κs = tt
 
+cast-count : tie.Need-cast-count
+cast-count c = search needs
+
+add-part : tie.Need-add-part
+add-part c = search needs
+
 part-requires : tie.Need-part-requires
 part-requires c κs = tt
-
-cast-zero-from : tie.Need-cast-zero-from
-cast-zero-from c = search needs
 
 mul-zero-from : tie.Need-mul-zero-from
 mul-zero-from c = search needs
@@ -27,21 +35,23 @@ both-requires : tie.Need-both-requires
 both-requires c κs = tt
 
 returns : tie.Need-returns
-unfolding okLast decLast
+unfolding okLast
 returns c =
     let z = c .before in
     let p = z .before in
-    let g = p .before in
-    let s = g .before .before .args .s in
-    both-of (c .both .ensures) (ap (λ n. leb n 10) (g .get8 .ensures)) (room-of 640 1 (s .now) (z .zero-from .ensures) (ap (λ n. n * 64) (g .get8 .ensures)) (p .part .ensures))
+    let count = p .before .get8 .ensures in
+    both-of (c .both .ensures) (ap (λ n. leb n mostHashes) count)
+    (z .zero-from .ensures ∙ ap₂ (λ n x. allZero (drop (n * signatureSize) x)) count (p .part .ensures))
 
 pub last-ok-spec : {M : Type 1} → statement M
 last-ok-spec =
     tie.close
     (tie.spec
+    cast-get8
     get8-requires
+    cast-count
+    add-part
     part-requires
-    cast-zero-from
     mul-zero-from
     zero-from-requires
     both-requires

@@ -1,6 +1,6 @@
-use Rattle.image.proofs.Laws.{both-of, both-and, either-or}
 use lib.Dec.{leb, eqb}
 use Rattle.card.specs.Valid.{okRanges}
+use Rattle.image.proofs.Laws.{both-of, both-and, either-or}
 use Rattle.image.proofs.valid.ranges_ok.Statement.{statement}
 use Rattle.image.proofs.valid.ranges_ok.Tie as tie
 
@@ -31,9 +31,19 @@ both-requires-4 c κs = tt
 returns : tie.Need-returns
 unfolding okRanges
 returns c =
-    let x = c .before .before .before .before .before .before .before .before .before .before .before .before .before .before .before .before .before .before .args .x in
-    let w = c .before .before .before .before .before .before .before .before .before .before .before .before .before .before .before .before .before .before .args .w in
-    both-of (c .both4 .ensures) (c .before .before .before .before .before .before .before .before .before .before .before .before .before .before .before .either .ensures) (both-and (leb 1 (x .max)) (c .before .both3 .ensures) (both-of (c .before .before .before .both2 .ensures) (either-or (eqb (w .status) 1) (c .before .before .before .before .before .before .before .before .before .before .either3 .ensures) (c .before .before .before .before .before .before .before .before .before .before .before .before .either2 .ensures)) (both-and (leb (w .remaining) (x .max)) (c .before .before .before .before .both .ensures) (c .before .before .before .before .before .before .before .either4 .ensures))))
+    let b3 = c .before in
+    let b2 = b3 .before in
+    let b1 = b2 .before in
+    let idle = b1 .before .before in
+    let status = idle .before .before .before in
+    let begun = status .before .before in
+    let known = begun .before .before .before in
+    let a = known .before .args in
+    λ cid cvc.
+    both-of (c .both4 .ensures) (known .either .ensures)
+    (both-and (leb 1 (a .max)) (b3 .both3 .ensures)
+    (both-of (b2 .both2 .ensures) (either-or (eqb (a .w .status) 1) (status .either3 .ensures) (begun .either2 .ensures))
+    (both-and (leb (a .w .remaining) (a .max)) (b1 .both .ensures) (idle .either4 .ensures))))
 
 pub ranges-ok-spec : {M : Type 1} → statement M
 ranges-ok-spec =

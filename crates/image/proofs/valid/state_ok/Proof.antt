@@ -38,9 +38,20 @@ both-requires-4 c κs = tt
 returns : tie.Need-returns
 unfolding okState
 returns c =
-    let x = c .before .before .before .before .before .before .before .before .before .before .before .before .before .before .before .before .before .before .args .x in
-    let w = c .before .before .before .before .before .before .before .before .before .before .before .before .before .before .before .before .before .before .args .w in
-    both-of (c .both4 .ensures) (c .before .before .before .either5 .ensures) (both-of (c .before .both3 .ensures) (either-or (eqb (x .reusable) 1) (c .before .before .before .before .before .either4 .ensures) (ap (eqb (w .number)) (c .before .before .before .before .before .before .before .only-number .ensures))) (both-of (c .before .before .both2 .ensures) (either-or (eqb (x .reusable) 0) (c .before .before .before .before .before .before .before .before .before .either3 .ensures) (c .before .before .before .before .before .before .before .before .before .before .either2 .ensures)) (either-or (eqb (x .active) 1) (c .before .before .before .before .before .before .before .before .before .before .before .before .before .either .ensures) (c .before .before .before .before .before .before .before .before .before .before .before .before .before .before .both .ensures))))
+    let b3 = c .before in
+    let b2 = b3 .before in
+    let begun = b2 .before in
+    let once = begun .before .before in
+    let number = once .before .before in
+    let again = number .before .before in
+    let either = again .before in
+    let asleep = either .before .before .before in
+    let none = asleep .before in
+    let a = none .before .before .before .before .args in
+    both-of (c .both4 .ensures) (begun .either5 .ensures)
+    (both-of (b3 .both3 .ensures) (either-or (eqb (a .x .reusable) 1) (once .either4 .ensures) (ap (eqb (a .w .number)) (number .only-number .ensures)))
+    (both-of (b2 .both2 .ensures) (either-or (eqb (a .x .reusable) 0) (again .either3 .ensures) (either .either2 .ensures))
+    (either-or (eqb (a .x .active) 1) (asleep .either .ensures) (none .both .ensures))))
 
 pub state-ok-spec : {M : Type 1} → statement M
 state-ok-spec =

@@ -3,6 +3,7 @@ use Prim.Native.Nat.{_-_}
 use mathlib.Core.Path.{_≡_, refl}
 use native.Mathlib.Omega.{arith}
 use lib.ListN.{length}
+use Rattle.card.specs.Layout.{imageSize}
 use Rattle.taps.proofs.print.put_changes.Statement.{statement}
 use Rattle.taps.proofs.print.put_changes.Tie as tie
 
@@ -10,7 +11,7 @@ abbrev Inv-loop : tie.InvT-loop
 Inv-loop out₀ from old new at₀ i₀ out at i = length out ≡ length out₀
 
 abbrev μ-loop : tie.MeasureT-loop
-μ-loop out₀ from old new at₀ i₀ out at i = 2429 - i
+μ-loop out₀ from old new at₀ i₀ out at i = imageSize - i
 
 loop-holds : tie.Need-loop-holds Inv-loop μ-loop
 loop-holds c = refl

@@ -1,0 +1,6 @@
+pub mod Row
+pub mod Sizes
+pub mod Wallet
+pub mod Checking
+pub mod Storage
+pub mod Facts

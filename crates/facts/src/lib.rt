@@ -1,0 +1,1 @@
+// What holds of every command's row: one record of facts a row. No code.

@@ -1,0 +1,203 @@
+-- THE CONDUCT of the commands on the wallet and the codes: F2, F8, FA, FB, FC. Assumes nothing.
+use Prim.Native.Nat.{ℕ, _+_, _≤_, _<_}
+use native.Mathlib.Omega.{arith}
+use mathlib.Core.Path.{_≡_, refl, ap, _∙_}
+use mathlib.Core.List.{List, [], _∷_}
+use mathlib.Core.Bool.{Bool, true, false, cond}
+use lib.ListN.{length, getD}
+use lib.Dec.{eqb}
+use borrow.Author.Tests.{ltb-true, leb-true, eqb-true}
+use Rattle.fields.specs.Fields.{View, val, fld}
+use Rattle.card.specs.declared.Codes.{Codes}
+use Rattle.card.specs.declared.Face.{Face}
+use Rattle.card.specs.Layout.{keyRoom, keyShort, top16, top32}
+use Rattle.card.specs.Values.{created, spent, purged, afterPurge, risen, heldKey, heldLast, lastOf, withWallet, withCounters}
+use Rattle.card.specs.Valid.{keySize, okFace}
+use Rattle.kept.proofs.Tests.{valid, flagged}
+use Rattle.kept.proofs.Kept.{keeps-create, keeps-sign, keeps-purge, held-key-ok, held-last-ok, purged-key-ok}
+use Rattle.kept.proofs.Next.{ok-wallet-key, ok-wallet, ok-counters, ok-last}
+use Rattle.manual.specs.Tags.{CID, Signature}
+use Rattle.manual.specs.declared.Command.the-variants.{ReadCard, CreateWallet, SetPin, Sign, PurgeWallet}
+use Rattle.manual.specs.Row.{Matched, fitting, anyByte, keyAnswer, shaped}
+use Rattle.manual.specs.Wallet.{isLoaded, isActive, readFields, readCard, createWallet, setPin, sign, purgeWallet, isNew, count, signedFace}
+use Rattle.manual.specs.Settle.{sentIn}
+use Rattle.story.specs.Sums.{Sheet, History, tap, toldIn, wallets, made, total}
+use Rattle.history.proofs.Choice.{by-cases, clash, Did}
+use Rattle.history.proofs.Taps.{Passed}
+use Rattle.history.proofs.Seen.{look, watch, Inv}
+use Rattle.history.proofs.Conduct.{Reports, Conduct, quietly, loaded, emptied, not-purged, same, Climbs}
+use Rattle.history.proofs.Sign.{exact, needed, answer-size, still}
+
+read-reports : (f : Face) (b c : Bool) → isActive f ≡ b → isLoaded f ≡ c → Reports (watch f) (fld CID (f .front .fixed .cid) ∷ readFields f)
+read-reports f false c e g = rw e (quietly (watch f) _ refl)
+read-reports f true false e g = rw (e, g) (record { signed = λ h. refl; remaining = λ h. clash h refl })
+read-reports f true true e g = rw (e, g) (record { signed = λ h. refl; remaining = λ h. (refl, eqb-true (f .front .wallet .status) 2 g) })
+
+module _ (m : Matched) (f : Face) (q d a : List ℕ) where
+  pub of-readCard : Passed readCard m f (sentIn q) → Conduct ReadCard f q d a
+  unfolding readCard
+  of-readCard p =
+      record {
+        reports = read-reports f (isActive f) (isLoaded f) refl refl;
+        keeps = λ sh x h r i t s. rw (t .create, t .pin, t .sign, t .purge) i;
+        stays = λ o g. o;
+        alive = λ u e. clash u refl;
+        climbs = λ g. same refl refl;
+      }
+
+  pub of-setPin : Passed setPin m f (sentIn q) → Conduct SetPin f q d a
+  unfolding setPin
+  of-setPin p =
+      record {
+        reports = quietly _ _ refl;
+        keeps = λ sh x h r i t s.
+            rw (t .create, t .pin, t .sign, t .purge)
+            (record {
+              fixed = i .fixed;
+              flags = i .flags;
+              codes = refl;
+              status = i .status;
+              number = i .number;
+              total = i .total;
+              fits = i .fits;
+              last = i .last;
+              balance = i .balance;
+              purged = i .purged;
+            });
+        stays = λ o g. o;
+        alive = λ u e. clash u refl;
+        climbs = λ g. same refl refl;
+      }
+
+-- F8: a key of 65 bytes starts with 04
+key-fits : (curve : ℕ) (a : List ℕ) → fitting (keyAnswer curve) a ≡ true → (length a ≡ keySize curve 2) × (length a ≡ keyRoom → getD a 0 0 ≡ 4)
+unfolding keySize
+key-fits curve a = go (eqb curve 1)
+  where
+    go : (b : Bool) → fitting (cond b (keyAnswer 1) (keyAnswer 2)) a ≡ true → (length a ≡ cond b keyRoom keyShort) × (length a ≡ keyRoom → getD a 0 0 ≡ 4)
+    go true e = let z = exact keyRoom (λ b. eqb b 4) a e in (z .0, λ _. eqb-true (getD a 0 0) 4 (z .1))
+    go false e = let z = exact keyShort anyByte a e in (z .0, λ l. absurd (omega (arith, z .0)))
+
+create-stays :
+    (m : Matched) (f : Face) (v : View) (d a : List ℕ) → Passed createWallet m f v → okFace f ≡ true
+    → shaped (createWallet .questions f v d) a ≡ true → okFace (createWallet .next f v a) ≡ true
+unfolding createWallet shaped
+create-stays m f v d a p o g =
+    let y = valid f o in
+    let x = f .front in
+    let e : x .wallet .status ≡ 1 = emptied (createWallet .needs) (x .wallet .status) (p .allows) refl refl in
+    let n : x .wallet .number < top16 = ltb-true (x .wallet .number) top16 (p .conditions) in
+    let k = keeps-create (x .fixed) (x .flags) (x .wallet) (y .ranges) (y .state) e n (eqb-true (x .flags .active) 1 (p .awake)) in
+    let z = key-fits (x .fixed .curve) a g in
+    ok-wallet-key f o (created (x .fixed .max) (x .wallet)) (heldKey a) (k .0) (k .1) (held-key-ok (x .fixed .curve) 2 a (z .0) (z .1))
+
+pub of-createWallet : (m : Matched) (f : Face) (q d a : List ℕ) → Passed createWallet m f (sentIn q) → Conduct CreateWallet f q d a
+unfolding createWallet
+of-createWallet m f q d a p =
+    record {
+      reports = quietly _ _ refl;
+      keeps = λ sh x h r i t s.
+          let n : f .front .wallet .number < top16 = ltb-true _ _ (p .conditions) in
+          let u : f .front .wallet .number ≡ wallets h = i .number in
+          rw (t .create, t .pin, t .sign, t .purge)
+          (record {
+            fixed = i .fixed;
+            flags = i .flags;
+            codes = i .codes;
+            status = refl;
+            number = omega arith;
+            total = i .total;
+            fits = i .fits;
+            last = i .last;
+            balance = λ y. omega (arith, ap (λ z. z .max) (i .fixed));
+            purged = λ b c. absurd (not-purged (createWallet .needs) (f .front .wallet .status) (p .allows) refl (i .status ∙ i .purged b c));
+          });
+      stays = create-stays m f (sentIn q) d a p;
+      alive = λ u e. not-purged (createWallet .needs) (f .front .wallet .status) (p .allows) refl e;
+      climbs = λ g. same refl refl;
+    }
+
+-- FB
+sign-stays :
+    (m : Matched) (f : Face) (v : View) (d a : List ℕ) → Passed sign m f v → okFace f ≡ true → shaped (sign .questions f v d) a ≡ true
+    → isNew v ≡ true → okFace (signedFace f (count v) a) ≡ true
+sign-stays m f v d a p o g n =
+    let y = valid f o in
+    let x = f .front in
+    let k = keeps-sign (x .fixed) (x .flags) (count v) (x .wallet) (y .ranges) (y .state) in
+    let w = withWallet (spent (count v) (x .wallet)) f in
+    let c = ok-counters w (ok-wallet f o (spent (count v) (x .wallet)) (k .0) (k .1) refl) (risen (x .counters)) in
+    ok-last (withCounters (risen (x .counters)) w) c (heldLast a) (held-last-ok a (count v) (answer-size f v d a n g) (needed m f v p .few n))
+
+sign-keeps :
+    (sh : Sheet) (f : Face) (x : Codes) (h : History) (q r a : List ℕ) → Inv sh (watch f) x (look sh h) → Did Sign (tap q r)
+    → (b : Bool) → isNew (sentIn q) ≡ b
+    → (b ≡ true → lastOf (heldLast a) ≡ val Signature (toldIn r)) → (b ≡ true → 0 < f .front .wallet .remaining)
+    → (b ≡ true → f .front .wallet .signed + count (sentIn q) ≤ top32)
+    → Inv sh (watch (cond b (signedFace f (count (sentIn q)) a) f)) x (look sh (tap q r ∷ h))
+sign-keeps sh f x h q r a i t false n l y z = rw (t .create, t .pin, t .sign, t .purge, n) i
+sign-keeps sh f x h q r a i t true n l y z =
+    let u : f .front .wallet .signed ≡ total h = i .total in
+    rw (t .create, t .pin, t .sign, t .purge, n)
+    (record {
+      fixed = i .fixed;
+      flags = i .flags;
+      codes = i .codes;
+      status = i .status;
+      number = i .number;
+      total = omega (arith, z refl);
+      fits = omega (arith, z refl);
+      last = l refl;
+      balance = λ s. let b : f .front .wallet .remaining + made h ≡ sh .fixed .max = i .balance s in omega (arith, y refl);
+      purged = i .purged;
+    })
+
+pub of-sign : (m : Matched) (f : Face) (q d a : List ℕ) → Passed sign m f (sentIn q) → Conduct Sign f q d a
+unfolding sign
+of-sign m f q d a p =
+    let y = needed m f (sentIn q) p in
+    record {
+      reports = record {
+        signed = λ e. refl;
+        remaining = λ e. (refl, still (isNew (sentIn q)) f (count (sentIn q)) a ∙ y .alive);
+      };
+      keeps = λ sh x h r i t s.
+          sign-keeps sh f x h q r a i t (isNew (sentIn q)) refl (λ n. rw n at s) (y .some) (y .fits);
+      stays = λ o g. by-cases (λ z. okFace z ≡ true) (isNew (sentIn q)) (λ n. sign-stays m f (sentIn q) d a p o g n) (λ _. o);
+      alive = λ u e. not-purged (sign .needs) (f .front .wallet .status) (p .allows) refl e;
+      climbs = λ g. by-cases (Climbs f) (isNew (sentIn q)) (λ _. same refl refl) (λ _. same refl refl);
+    }
+
+-- FC
+not-two : (r : ℕ) → afterPurge r ≡ 2 → ⊥
+not-two r = by-cases (λ n. n ≡ 2 → ⊥) (eqb r 1) (λ _ e. omega arith) (λ _ e. omega arith)
+
+pub of-purgeWallet : (m : Matched) (f : Face) (q d a : List ℕ) → Passed purgeWallet m f (sentIn q) → Conduct PurgeWallet f q d a
+unfolding purgeWallet
+of-purgeWallet m f q d a p =
+    let x = f .front in
+    let e : x .wallet .status ≡ 2 = loaded (purgeWallet .needs) (x .wallet .status) (p .allows) refl refl in
+    record {
+      reports = quietly _ _ refl;
+      keeps = λ sh c h r i t s.
+          rw (t .create, t .pin, t .sign, t .purge)
+          (record {
+            fixed = i .fixed;
+            flags = i .flags;
+            codes = i .codes;
+            status = ap (λ y. afterPurge (y .reusable)) (i .flags);
+            number = i .number;
+            total = i .total;
+            fits = i .fits;
+            last = i .last;
+            balance = λ y. absurd (not-two (sh .flags .reusable) y);
+            purged = λ b c. rw b refl;
+          });
+      stays = λ o g.
+          let v = valid f o in
+          let l = leb-true (x .flags .reusable) 1 (flagged (x .flags) (v .flags) .reusable) in
+          let k = keeps-purge (x .fixed) (x .flags) (x .wallet) (v .ranges) (v .state) e l in
+          ok-wallet-key f o (purged (x .flags .reusable) (x .wallet)) (heldKey []) (k .0) (k .1) (purged-key-ok (x .fixed .curve) (x .flags .reusable));
+      alive = λ u e. clash u refl;
+      climbs = λ g. same refl refl;
+    }

@@ -1,0 +1,81 @@
+use mathlib.Core.Path.{ap, ap₂, _∙_}
+use Rattle.card.specs.Image.{decKey, decode}
+use Rattle.card.specs.Valid.{okFlags, okRanges, okState, okKey, okFront}
+use Rattle.image.proofs.Laws.{both-of}
+use Rattle.image.proofs.valid.front_ok.Statement.{statement}
+use Rattle.image.proofs.valid.front_ok.Tie as tie
+
+flags-requires : tie.Need-flags-requires
+flags-requires c κs = tt
+
+wallet-requires : tie.Need-wallet-requires
+wallet-requires c κs = tt
+
+curve-requires : tie.Need-curve-requires
+curve-requires c κs = tt
+
+key-ok-requires : tie.Need-key-ok-requires
+key-ok-requires c κs = tt
+
+state-ok-requires : tie.Need-state-ok-requires
+state-ok-requires c κs = tt
+
+both-requires : tie.Need-both-requires
+both-requires c κs = tt
+
+max-requires : tie.Need-max-requires
+max-requires c κs = tt
+
+ranges-ok-requires : tie.Need-ranges-ok-requires
+ranges-ok-requires c κs = tt
+
+flags-ok-requires : tie.Need-flags-ok-requires
+flags-ok-requires c κs = tt
+
+both-requires-2 : tie.Need-both-requires-2
+both-requires-2 c κs = tt
+
+both-requires-3 : tie.Need-both-requires-3
+both-requires-3 c κs = tt
+
+returns : tie.Need-returns
+unfolding decode okFront
+returns c =
+    let b2 = c .before in
+    let f = b2 .before in
+    let r = f .before in
+    let m = r .before in
+    let b1 = m .before in
+    let s = b1 .before in
+    let k = s .before in
+    let v = k .before in
+    let w = v .before in
+    let g = w .before in
+    let l = g .before .before .args .img .now in
+    let fixed = decode l .face .front .fixed in
+    let curve = v .curve .ensures in
+    let wallet = w .wallet .ensures in
+    let flags = g .flags .ensures in
+    both-of (c .both3 .ensures) (f .flags-ok .ensures ∙ ap okFlags flags)
+    (both-of (b2 .both2 .ensures)
+    (r .ranges-ok .ensures (fixed .cid) (fixed .cvc)
+    ∙ (λ i. okRanges (record { cid = fixed .cid; cvc = fixed .cvc; curve = curve i; max = m .max .ensures i }) (wallet i)))
+    (both-of (b1 .both .ensures) (s .state-ok .ensures ∙ ap₂ okState flags wallet)
+    (k .key-ok .ensures ∙ (λ i. okKey (curve i) (wallet i .status) (decKey l)))))
+
+pub front-ok-spec : {M : Type 1} → statement M
+front-ok-spec =
+    tie.close
+    (tie.spec
+    flags-requires
+    wallet-requires
+    curve-requires
+    key-ok-requires
+    state-ok-requires
+    both-requires
+    max-requires
+    ranges-ok-requires
+    flags-ok-requires
+    both-requires-2
+    both-requires-3
+    returns)

@@ -1,3 +1,0 @@
-pub mod Group
-pub mod Halves
-pub mod Holds

@@ -1,0 +1,4 @@
+pub mod Tests
+pub mod Kept
+pub mod Next
+pub mod Fresh

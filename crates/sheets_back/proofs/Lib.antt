@@ -1,0 +1,5 @@
+pub mod ReadBack
+pub mod Good
+pub mod Short
+pub mod Early
+pub mod Parted

@@ -1,0 +1,33 @@
+use native.Mathlib.Omega.{arith}
+use lib.ListN.{length-append}
+use Rattle.wire.proofs.Laws.{then}
+use Rattle.card.specs.Image.{encFace}
+use borrow.Author.Needs.{needs}
+use Rattle.writing.proofs.whole.write_face.Statement.{statement}
+use Rattle.writing.proofs.whole.write_face.Tie as tie
+
+write-front-requires : tie.Need-write-front-requires
+write-front-requires c κs = tt
+
+write-held-requires : tie.Need-write-held-requires
+write-held-requires c κs = tt
+
+write-last-requires : tie.Need-write-last-requires
+write-last-requires c κs = tt
+
+same-length : tie.Need-same-length
+same-length c = search needs
+
+returns : tie.Need-returns
+unfolding encFace
+returns c =
+    let w3 = c .before .before in
+    let w2 = w3 .before .before .before .before .before in
+    let w1 = w2 .before .before .before .before .before in
+    let r1 = w1 .write-front .ensures in
+    let r2 = w2 .write-held .ensures in
+    let r3 = w3 .write-last .ensures in
+    (then (then (r1 .0) (r2 .0)) (r3 .0), simp length-append (omega (arith, r1 .1, r2 .1, r3 .1)))
+
+pub write-face-spec : {M : Type 1} → statement M
+write-face-spec = tie.close (tie.spec write-front-requires write-held-requires write-last-requires same-length returns)

@@ -1,0 +1,38 @@
+use native.Mathlib.Omega.{arith}
+use lib.ListN.{length-append}
+use Rattle.wire.proofs.Laws.{runs, then}
+use Rattle.card.specs.Image.{encFixed}
+use borrow.Author.Needs.{needs}
+use Rattle.writing.proofs.whole.write_fixed.Statement.{statement}
+use Rattle.writing.proofs.whole.write_fixed.Tie as tie
+
+give8-requires : tie.Need-give8-requires
+give8-requires c κs = tt
+
+give3-requires : tie.Need-give3-requires
+give3-requires c κs = tt
+
+put8-requires : tie.Need-put8-requires
+put8-requires c κs = tt
+
+put32-requires : tie.Need-put32-requires
+put32-requires c κs = tt
+
+same-length : tie.Need-same-length
+same-length c = search needs
+
+returns : tie.Need-returns
+unfolding encFixed
+returns c =
+    let w4 = c .before .before in
+    let w3 = w4 .before .before .before .before in
+    let w2 = w3 .before .before .before .before in
+    let w1 = w2 .before .before .before .before .before in (
+      then (then (then (runs (w1 .give8 .ensures .0)) (runs (w2 .give3 .ensures .0))) (runs (w3 .put8 .ensures))) (runs (w4 .put32 .ensures)),
+      simp length-append (omega (arith, w1 .give8 .ensures .1, w2 .give3 .ensures .1)),
+    )
+
+pub write-fixed-spec : {M : Type 1} → statement M
+write-fixed-spec =
+    tie.close
+    (tie.spec give8-requires give3-requires put8-requires put32-requires same-length returns)
