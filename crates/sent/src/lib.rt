@@ -67,7 +67,7 @@ fn spot_of(x: u32) -> Found
 }
 
 // By the places that the walk found; for a tag that has none, by a walk.
-pub fn find(p: &[u8], at: &Places, tag: u8) -> Found
+fn find(p: &[u8], at: &Places, tag: u8) -> Found
     ensures { λ r. ⌜ r ≡ lookup (now (p .entry)) (now (at .entry)) tag ⌝ }
 {
     let t = tag as usize;

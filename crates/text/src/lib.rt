@@ -119,7 +119,7 @@ pub fn is_digits(s: &[u8]) -> bool
 }
 
 // Whether the text is a number in decimal with no leading zero.
-pub fn plain_decimal(s: &[u8]) -> bool
+fn plain_decimal(s: &[u8]) -> bool
     ensures { λ r. ⌜ r ≡ plainDecimal (now (s .entry)) ⌝ }
 {
     let led = wire::either(s.len() == 1, wire::unless(wire::get8(s, 0) == 48));
