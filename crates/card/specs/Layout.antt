@@ -1,5 +1,5 @@
--- THE LIMITS of a card's values and THE LAYOUT of its image, docs/IMAGE.md: the one place that has them in numbers. `card` has constants of the same names. Assumes
--- nothing.
+-- THE LIMITS of a card's values and THE LAYOUT of its image, docs/IMAGE.md: the one place that has them in numbers.
+-- `card` has constants of the same names. Assumes nothing.
 use Prim.Native.Nat.{ℕ, _+_, _*_}
 
 -- LIMITS, 01 "What the card is made of"

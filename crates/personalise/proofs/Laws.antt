@@ -48,7 +48,8 @@ sheet-shape s =
 
 pub fresh-image : (s out : List ℕ) → imageRoom ≤ length out → firstBad s ≡ 0 → take imageSize (personalised s out .image) ≡ encode (sheetCard s)
 fresh-image s out h e =
-    ap (λ o. take imageSize (o .image)) (outcome-good s out h e) ∙ take-at (encode (sheetCard s)) (drop imageSize out) imageSize (length-encode (sheetCard s) (sheet-shape s))
+    ap (λ o. take imageSize (o .image)) (outcome-good s out h e)
+    ∙ take-at (encode (sheetCard s)) (drop imageSize out) imageSize (length-encode (sheetCard s) (sheet-shape s))
 
 pub answers-first : (s out : List ℕ) → imageRoom ≤ length out → personalised s out .answer ≡ firstBad s
 unfolding personalised

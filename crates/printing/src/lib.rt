@@ -11,7 +11,8 @@ ghost use Rattle.printing.specs.Printing.{toldAs, sameness, tapParts, ta
 
 // The response, or the number of a refusal without one.
 pub fn put_told(out: &mut [u8], number: u8, response: &[u8]) -> usize
-    ensures { λ r. ⌜ (Wrote (now (out .entry)) 0 (toldAs number (now (response .entry))) (now (out .exit)) r) × (length (toldAs number (now (response .entry))) ≤ 2 * length (now (response .entry)) + 10) ⌝ }
+    ensures { λ r. ⌜ (Wrote (now (out .entry)) 0 (toldAs number (now (response .entry))) (now (out .exit)) r)
+        × (length (toldAs number (now (response .entry))) ≤ 2 * length (now (response .entry)) + 10) ⌝ }
 {
     if number == 0 {
         return text::put_hex(out, 0, response);
@@ -49,7 +50,8 @@ fn put_number(out: &mut [u8], at: usize, n: u32, end: u8) -> usize
 
 // Of a tap.
 pub fn put_tap(out: &mut [u8], n: u32, same: bool, told: &[u8]) -> usize
-    ensures { λ r. ⌜ (Wrotes (now (out .entry)) 0 (tapParts n same (now (told .entry))) (now (out .exit)) r) × (length (tapText n same (now (told .entry))) ≤ length (now (told .entry)) + 18) ⌝ }
+    ensures { λ r. ⌜ (Wrotes (now (out .entry)) 0 (tapParts n same (now (told .entry))) (now (out .exit)) r)
+        × (length (tapText n same (now (told .entry))) ≤ length (now (told .entry)) + 18) ⌝ }
 {
     let b = put_number(out, 0, n, lines::TAB);
     let c = put_sameness(out, b, same);
@@ -60,7 +62,8 @@ pub fn put_tap(out: &mut [u8], n: u32, same: bool, told: &[u8]) -> usize
 
 // Of the sums.
 pub fn put_sums(out: &mut [u8], remaining: u32, signed: u32, made: u32, hashes: u32) -> usize
-    ensures { λ r. ⌜ (Wrotes (now (out .entry)) 0 (sumsParts remaining signed made hashes) (now (out .exit)) r) × (length (sumsText remaining signed made hashes) ≤ 44) ⌝ }
+    ensures { λ r. ⌜ (Wrotes (now (out .entry)) 0 (sumsParts remaining signed made hashes) (now (out .exit)) r)
+        × (length (sumsText remaining signed made hashes) ≤ 44) ⌝ }
 {
     let a = put_number(out, 0, remaining, lines::TAB);
     let b = put_number(out, a, signed, lines::TAB);

@@ -12,7 +12,8 @@ use lib.Dec.{ltb, eqb}
 use borrow.Author.Tests.{lt-ltb, le-ltb, le-leb, lt-leb, ne-eqb}
 use Rattle.wire.proofs.Laws.{or-true}
 use Rattle.wire.proofs.Parts.{Bytes}
-use Rattle.text.specs.Text.{allOf, hexValue, isHexDigit, isHex, pairValue, unhex, hexDigit, hexOf, isDigit, isDigits, decimalFrom, decimal, plainDecimal, digitsOf, decimalOf}
+use Rattle.text.specs.Text.{allOf, hexValue, isHexDigit, isHex, pairValue, unhex, hexDigit}
+use Rattle.text.specs.Text.{hexOf, isDigit, isDigits, decimalFrom, decimal, plainDecimal, digitsOf, decimalOf}
 
 -- EVERY BYTE
 module _ (p : ℕ → Bool) where
@@ -68,7 +69,11 @@ value-between b h k = let h₁ : 48 ≤ b = omega arith in rw (le-leb _ _ h₁, 
 
 pub value-above : (b : ℕ) → 70 < b → hexValue b ≡ 16
 unfolding hexValue
-value-above b h = let h₁ : 48 ≤ b = omega arith in let h₂ : 57 < b = omega arith in let h₃ : 65 ≤ b = omega arith in rw (le-leb _ _ h₁, lt-leb _ _ h₂, le-leb _ _ h₃, lt-leb _ _ h)
+value-above b h =
+    let h₁ : 48 ≤ b = omega arith in
+    let h₂ : 57 < b = omega arith in
+    let h₃ : 65 ≤ b = omega arith in
+    rw (le-leb _ _ h₁, lt-leb _ _ h₂, le-leb _ _ h₃, lt-leb _ _ h)
 
 pub length-unhex : (s : List ℕ) → length (unhex s) ≡ length s / 2
 unfolding unhex
@@ -165,7 +170,8 @@ enough (suc k) zero n h h′ = absurd (omega arith)
 enough (suc k) (suc j) n h h′ = go (decLt n 10) (enough k j (n / 10))
   where
     go : Dec (n < 10) → (n / 10 < k → n / 10 < j → digitsOf k (n / 10) ≡ digitsOf j (n / 10))
-        → cond (ltb n 10) ((n + 48) ∷ []) (digitsOf k (n / 10) ++ ((n % 10 + 48) ∷ [])) ≡ cond (ltb n 10) ((n + 48) ∷ []) (digitsOf j (n / 10) ++ ((n % 10 + 48) ∷ []))
+        → cond (ltb n 10) ((n + 48) ∷ []) (digitsOf k (n / 10) ++ ((n % 10 + 48) ∷ []))
+        ≡ cond (ltb n 10) ((n + 48) ∷ []) (digitsOf j (n / 10) ++ ((n % 10 + 48) ∷ []))
     go (yes x) f = rw (lt-ltb _ _ x)
     go (no x) f = let y : 10 ≤ n = omega (arith, x) in ap (λ l. cond (ltb n 10) ((n + 48) ∷ []) (l ++ ((n % 10 + 48) ∷ []))) (f (omega arith) (omega arith))
 
@@ -211,7 +217,12 @@ unfolding allOf
 led = by-digits (λ n. 1 ≤ n → Led (decimalOf n)) small more
   where
     small : (n : ℕ) → n < 10 → 1 ≤ n → Led (decimalOf n)
-    small n h k = rw (decimal-small n h) (record { digits = rw (digit-true (n + 48) (omega arith) (omega arith)); some = omega arith; first = λ e. omega arith })
+    small n h k =
+        rw (decimal-small n h) (record {
+          digits = rw (digit-true (n + 48) (omega arith) (omega arith));
+          some = omega arith;
+          first = λ e. omega arith;
+        })
 
     more : (n : ℕ) → 10 ≤ n → (1 ≤ n / 10 → Led (decimalOf (n / 10))) → 1 ≤ n → Led (decimalOf n)
     more n h f k =

@@ -105,7 +105,8 @@ next-from k s l t h o e =
     let n : length (drop at s) ≡ length l + suc (length t) = ap length e ∙ length-append l (10 ∷ t) in
     let i : at < length s = omega (arith, length-drop at s) in
     let z : at + length l + 1 ≡ at + (length l + 1) = omega arith in
-    rw (start-next k s h, lt-ltb _ _ i, e, scan-past 10 l t o, z) (sym (drop-drop (length l + 1) at s) ∙ ap (drop (length l + 1)) e ∙ drop-append-add l (10 ∷ t) 1)
+    rw (start-next k s h, lt-ltb _ _ i, e, scan-past 10 l t o, z)
+    (sym (drop-drop (length l + 1) at s) ∙ ap (drop (length l + 1)) e ∙ drop-append-add l (10 ∷ t) 1)
 
 -- where nothing is left, no line starts
 pub none-left : (k : ℕ) (s : List ℕ) → fromLine k s ≡ [] → length s ≤ startOf k s
@@ -119,7 +120,8 @@ module _ (b : ℕ) where
   stands [] h = absurd (omega arith)
   stands (x ∷ s) h = go (eqb x b) refl h (stands s)
     where
-      go : (t : Bool) → eqb x b ≡ t → cond t 0 (suc (lengthTo b s)) < suc (length s) → (lengthTo b s < length s → getD s (lengthTo b s) 0 ≡ b) → getD (x ∷ s) (cond t 0 (suc (lengthTo b s))) 0 ≡ b
+      go : (t : Bool) → eqb x b ≡ t → cond t 0 (suc (lengthTo b s)) < suc (length s) → (lengthTo b s < length s → getD s (lengthTo b s) 0 ≡ b)
+          → getD (x ∷ s) (cond t 0 (suc (lengthTo b s))) 0 ≡ b
       go true e h f = eqb-true x b e
       go false e h f = f (omega arith)
 

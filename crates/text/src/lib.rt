@@ -3,7 +3,8 @@ ghost use mathlib.Core.Path.{_≡_};
 ghost use Prim.Native.Nat.{_+_, _-_, _*_, _/_, _%_, _≤_, _<_};
 ghost use lib.ListN.{length};
 ghost use Rattle.wire.specs.Wire.{put, Wrote};
-ghost use Rattle.text.specs.Text.{hexValue, isHex, pairValue, unhex, hexDigit, hexOf, isDigit, isDigits, decimal, plainDecimal, fitting, numberOf, decimalOf};
+ghost use Rattle.text.specs.Text.{hexValue, isHex, pairValue, unhex, hexDigit, hexOf};
+ghost use Rattle.text.specs.Text.{isDigit, isDigits, decimal, plainDecimal, fitting, numberOf, decimalOf};
 
 pub mod lines;
 

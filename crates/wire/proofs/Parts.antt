@@ -19,9 +19,6 @@ length-pad n x =
     (λ e. length-put z 0 x (room-true (length z) 0 (length x) e) ∙ length-replicate n 0)
     (λ e. length-replicate n 0)
 
-pub length-grab : (n at : ℕ) (l : List ℕ) → length (grab n at l) ≡ n
-length-grab n at l = length-pad n (part l at n)
-
 pub pad-whole : (n : ℕ) (x : List ℕ) → length x ≡ n → pad n x ≡ x
 pad-whole n x h =
     let k : length x ≤ n = omega arith in
@@ -71,12 +68,6 @@ peel l n w f rest e k h = (
   part-plain l n w (within l n w f rest e k h) ∙ rw e (take-at f rest w k),
   sym (drop-drop w n l) ∙ rw e (drop-at f rest w k),
 )
-
--- the same of what is read into an array
-pub peel-array : (l : List ℕ) (n w : ℕ) (f rest : List ℕ) → drop n l ≡ f ++ rest → length f ≡ w → 0 < w → (grab w n l ≡ f) × (drop (n + w) l ≡ rest)
-peel-array l n w f rest e k h =
-    let p = peel l n w f rest e k h in
-    (grab-part l n w (within l n w f rest e k h) ∙ p .0, p .1)
 
 -- the element at n + i, where l from n on is known
 at : (l : List ℕ) (n i : ℕ) (m : List ℕ) → drop n l ≡ m → getD l (n + i) 0 ≡ getD m i 0
@@ -153,20 +144,3 @@ module _ (l : List ℕ) (n : ℕ) (b : Bytes l) where
         e2,
         e3,
       )
-
-bytes-none : Bytes []
-bytes-none i = lit< tt
-
-bytes-take : (w : ℕ) (l : List ℕ) → Bytes l → Bytes (take w l)
-bytes-take zero l b i = lit< tt
-bytes-take (suc w) [] b i = lit< tt
-bytes-take (suc w) (x ∷ xs) b zero = b zero
-bytes-take (suc w) (x ∷ xs) b (suc i) = bytes-take w xs (λ j. b (suc j)) i
-
-pub bytes-part : (l : List ℕ) (n w : ℕ) → Bytes l → Bytes (part l n w)
-unfolding part
-bytes-part l n w b =
-    by-cases Bytes (leb n (length l)) {x = cond (leb w (length l - n)) (take w (drop n l)) []} {y = []}
-    (λ e. by-cases Bytes (leb w (length l - n)) {x = take w (drop n l)} {y = []} (λ f. bytes-take w (drop n l) (λ j. rw getD-drop (b (n + j))))
-    (λ f. bytes-none))
-    (λ e. bytes-none)

@@ -22,7 +22,8 @@ returns c =
     let e = c .before in
     let x = e .before .before .before .before .args in
     let t = now (x .told) in
-    c .both .ensures ∙ ap (λ b. eqb (length (now (x .expected))) (length t) && b) (e .equal .ensures ∙ ap (λ l. alike l t) (e .before .part .ensures)) ∙ same-whole (now (x .expected)) t
+    c .both .ensures ∙ ap (λ b. eqb (length (now (x .expected))) (length t) && b) (e .equal .ensures ∙ ap (λ l. alike l t) (e .before .part .ensures))
+    ∙ same-whole (now (x .expected)) t
 
 pub is-same-spec : {M : Type 1} → statement M
 is-same-spec = tie.close (tie.spec part-requires equal-requires both-requires returns)

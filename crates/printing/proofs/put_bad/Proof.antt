@@ -23,8 +23,10 @@ returns : tie.Need-returns
 returns c =
     let e = c .before .before in
     let b = e .before .before .before .before in
-    let a = b .before .before .before .before in
-    (wrote-more (a .put-bytes .ensures) (wrote-more (b .put8 .ensures) (e .put-number .ensures .0)), bad-short (a .before .before .before .before .args .line) (e .put-number .ensures .1))
+    let a = b .before .before .before .before in (
+      wrote-more (a .put-bytes .ensures) (wrote-more (b .put8 .ensures) (e .put-number .ensures .0)),
+      bad-short (a .before .before .before .before .args .line) (e .put-number .ensures .1),
+    )
 
 pub put-bad-spec : {M : Type 1} → statement M
 put-bad-spec =

@@ -28,7 +28,8 @@ returns c =
     let x = f .before .before .before .args in (
       wrote-append (f .put-number .ensures .0)
           (wrote-append (a .put-number2 .ensures .0) (wrote-append (b .put-number3 .ensures .0) (d .put-number4 .ensures .0))),
-      sums-short (x .remaining) (x .signed) (x .made) (x .hashes) (f .put-number .ensures .1) (a .put-number2 .ensures .1) (b .put-number3 .ensures .1) (d .put-number4 .ensures .1),
+      sums-short (x .remaining) (x .signed) (x .made) (x .hashes) (f .put-number .ensures .1) (a .put-number2 .ensures .1) (b .put-number3 .ensures .1)
+          (d .put-number4 .ensures .1),
     )
 
 pub put-sums-spec : {M : Type 1} → statement M

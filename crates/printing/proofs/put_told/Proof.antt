@@ -17,8 +17,10 @@ returns : tie.Need-returns
 unfolding toldAs
 returns c =
     let p = c .before .before in
-    let s = p .before .before .before .before .before in
-    (rw (eq-eqb _ _ (p .before .before .if1 .taken)) (p .put-hex .ensures), told-short (s .args .number) (now (s .args .response)) (omega (arith, s .fits .number)))
+    let s = p .before .before .before .before .before in (
+      rw (eq-eqb _ _ (p .before .before .if1 .taken)) (p .put-hex .ensures),
+      told-short (s .args .number) (now (s .args .response)) (omega (arith, s .fits .number)),
+    )
 
 put-decimal-requires : tie.Need-put-decimal-requires
 put-decimal-requires c κs = tt
@@ -30,8 +32,10 @@ returns-2 : tie.Need-returns-2
 unfolding toldAs
 returns-2 c =
     let p = c .before .before in
-    let s = p .before .before .before .before .before in
-    (rw (ne-eqb _ _ (p .before .before .if1 .left)) (p .put-decimal .ensures), told-short (s .args .number) (now (s .args .response)) (omega (arith, s .fits .number)))
+    let s = p .before .before .before .before .before in (
+      rw (ne-eqb _ _ (p .before .before .if1 .left)) (p .put-decimal .ensures),
+      told-short (s .args .number) (now (s .args .response)) (omega (arith, s .fits .number)),
+    )
 
 pub put-told-spec : {M : Type 1} → statement M
 put-told-spec =

@@ -25,7 +25,10 @@ is-digit-requires : tie.Need-is-digit-requires Inv-loop μ-loop
 is-digit-requires c κs = tt
 
 returns : tie.Need-returns Inv-loop μ-loop
-returns c = let l = c .before .before .before .before .loop in let s = now (c .before .before .before .before .before .before .args .s) in sym (l .inv ∙ all-stop isDigit s (l .i) (omega arith) (sym (c .before .is-digit .ensures) ∙ not-true _ (c .if1 .taken)))
+returns c =
+    let l = c .before .before .before .before .loop in
+    let s = now (c .before .before .before .before .before .before .args .s) in
+    sym (l .inv ∙ all-stop isDigit s (l .i) (omega arith) (sym (c .before .is-digit .ensures) ∙ not-true _ (c .if1 .taken)))
 
 add-i : tie.Need-add-i Inv-loop μ-loop
 add-i c = omega arith
@@ -34,7 +37,10 @@ loop-less : tie.Need-loop-less Inv-loop μ-loop
 loop-less c = omega arith
 
 loop-again : tie.Need-loop-again Inv-loop μ-loop
-loop-again c = let l = c .before .before .before .before .loop in let s = now (c .before .before .before .before .before .before .args .s) in l .inv ∙ all-go isDigit s (l .i) (omega arith) (sym (c .before .is-digit .ensures) ∙ not-false _ (c .if1 .left))
+loop-again c =
+    let l = c .before .before .before .before .loop in
+    let s = now (c .before .before .before .before .before .before .args .s) in
+    l .inv ∙ all-go isDigit s (l .i) (omega arith) (sym (c .before .is-digit .ensures) ∙ not-false _ (c .if1 .left))
 
 returns-2 : tie.Need-returns-2 Inv-loop μ-loop
 returns-2 c = let l = c .before .loop in let s = now (c .before .before .before .args .s) in sym (l .inv ∙ all-end isDigit s (l .i) (omega arith))

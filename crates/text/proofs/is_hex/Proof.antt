@@ -26,7 +26,12 @@ hex-value-requires c κs = tt
 
 returns : tie.Need-returns Inv-loop μ-loop
 unfolding isHexDigit
-returns c = let l = c .before .before .before .before .loop in let s = now (c .before .before .before .before .before .before .args .s) in let h = c .if1 .taken in let e = c .before .hex-value .ensures .0 in sym (l .inv ∙ all-stop isHexDigit s (l .i) (omega arith) (le-ltb (hexValue (getD s (l .i) 0)) 16 (omega arith)))
+returns c =
+    let l = c .before .before .before .before .loop in
+    let s = now (c .before .before .before .before .before .before .args .s) in
+    let h = c .if1 .taken in
+    let e = c .before .hex-value .ensures .0 in
+    sym (l .inv ∙ all-stop isHexDigit s (l .i) (omega arith) (le-ltb (hexValue (getD s (l .i) 0)) 16 (omega arith)))
 
 add-i : tie.Need-add-i Inv-loop μ-loop
 add-i c = omega arith
@@ -36,7 +41,12 @@ loop-less c = omega arith
 
 loop-again : tie.Need-loop-again Inv-loop μ-loop
 unfolding isHexDigit
-loop-again c = let l = c .before .before .before .before .loop in let s = now (c .before .before .before .before .before .before .args .s) in let h = c .if1 .left in let e = c .before .hex-value .ensures .0 in l .inv ∙ all-go isHexDigit s (l .i) (omega arith) (lt-ltb (hexValue (getD s (l .i) 0)) 16 (omega arith))
+loop-again c =
+    let l = c .before .before .before .before .loop in
+    let s = now (c .before .before .before .before .before .before .args .s) in
+    let h = c .if1 .left in
+    let e = c .before .hex-value .ensures .0 in
+    l .inv ∙ all-go isHexDigit s (l .i) (omega arith) (lt-ltb (hexValue (getD s (l .i) 0)) 16 (omega arith))
 
 returns-2 : tie.Need-returns-2 Inv-loop μ-loop
 returns-2 c = let l = c .before .loop in let s = now (c .before .before .before .args .s) in sym (l .inv ∙ all-end isHexDigit s (l .i) (omega arith))

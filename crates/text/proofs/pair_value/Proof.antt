@@ -28,7 +28,10 @@ cast-result c = search needs
 
 returns : tie.Need-returns
 unfolding pairValue
-returns c = ap₂ (λ (x y : ℕ). (x * 16 + y) % 256) (c .before .before .wide .ensures .0 ∙ c .before .before .before .hex-value .ensures .0) (c .wide2 .ensures .0 ∙ c .before .hex-value2 .ensures .0)
+returns c =
+    ap₂ (λ (x y : ℕ). (x * 16 + y) % 256)
+    (c .before .before .wide .ensures .0 ∙ c .before .before .before .hex-value .ensures .0)
+    (c .wide2 .ensures .0 ∙ c .before .hex-value2 .ensures .0)
 
 pub pair-value-spec : {M : Type 1} → statement M
 pair-value-spec =

@@ -30,12 +30,14 @@ drop-set l i x h =
     rw (add-one, drop-cons (set l i x) i 0 k, getD-set-same l i x 0 h, drop-set-lt (suc i) l i x (omega arith))
 
 -- a turn takes the last digit of what is left of the number
-turned : (n m i : ℕ) (l : List ℕ) (x : ℕ) → 10 ≤ m → 1 ≤ i → i < length l → x ≡ m % 10 + 48 → decimalOf n ≡ decimalOf m ++ drop (i + 1) l → decimalOf n ≡ decimalOf (m / 10) ++ drop (i - 1 + 1) (set l i x)
+turned : (n m i : ℕ) (l : List ℕ) (x : ℕ) → 10 ≤ m → 1 ≤ i → i < length l → x ≡ m % 10 + 48
+    → decimalOf n ≡ decimalOf m ++ drop (i + 1) l → decimalOf n ≡ decimalOf (m / 10) ++ drop (i - 1 + 1) (set l i x)
 turned n m i l x h h₁ h₂ e f =
     let z : i - 1 + 1 ≡ i = omega arith in
     rw (z, drop-set l i x h₂, e) (f ∙ rw (decimal-more m h, append-assoc))
 
-ended : (n m i : ℕ) (l : List ℕ) (x : ℕ) → m < 10 → i < length l → x ≡ m % 10 + 48 → decimalOf n ≡ decimalOf m ++ drop (i + 1) l → drop i (set l i x) ≡ decimalOf n
+ended : (n m i : ℕ) (l : List ℕ) (x : ℕ) → m < 10 → i < length l → x ≡ m % 10 + 48
+    → decimalOf n ≡ decimalOf m ++ drop (i + 1) l → drop i (set l i x) ≡ decimalOf n
 ended n m i l x h h₁ e f = let z : m % 10 + 48 ≡ m + 48 = omega arith in rw (drop-set l i x h₁, e, z) (sym (f ∙ rw (decimal-small m h)))
 
 abbrev Inv-loop : tie.InvT-loop
@@ -61,8 +63,13 @@ loop-less c = let l = c .before .before .loop in omega (arith, room-left (l .m) 
 
 loop-again : tie.Need-loop-again Inv-loop μ-loop
 loop-again c = let l = c .before .before .loop in
-    let k = room-left (l .m) (l .i) (c .before .loop-test .taken) (l .inv .2) in
-    (omega arith, simp length-set (omega arith), fewer (l .m) (l .i) k (l .inv .2), turned (c .before .before .before .before .args .n) (l .m) (l .i) (l .digits) (c .last-digit .result) (c .before .loop-test .taken) k (omega arith) (c .last-digit .ensures) (l .inv .3))
+    let k = room-left (l .m) (l .i) (c .before .loop-test .taken) (l .inv .2) in (
+      omega arith,
+      simp length-set (omega arith),
+      fewer (l .m) (l .i) k (l .inv .2),
+      turned (c .before .before .before .before .args .n) (l .m) (l .i) (l .digits) (c .last-digit .result) (c .before .loop-test .taken) k (omega arith)
+          (c .last-digit .ensures) (l .inv .3),
+    )
 
 last-digit-requires-2 : tie.Need-last-digit-requires-2 Inv-loop μ-loop
 last-digit-requires-2 c κs = tt
@@ -93,7 +100,8 @@ returns c = let b = c .before .before in
     let s = set (l .digits) (l .i) (d .last-digit2 .result) in
     let h : length (drop (l .i) s) ≤ 10 - l .i = simp (length-drop, length-set) (omega arith) in
     subst (λ (v : List ℕ). Wrote (now (x .out)) (x .at) v (b .put-bytes .last .0) (b .put-bytes .result))
-    (take-all (10 - l .i) (drop (l .i) s) h ∙ ended (x .n) (l .m) (l .i) (l .digits) (d .last-digit2 .result) (d .before .loop-test .left) (omega arith) (d .last-digit2 .ensures) (l .inv .3))
+    (take-all (10 - l .i) (drop (l .i) s) h ∙ ended (x .n) (l .m) (l .i) (l .digits) (d .last-digit2 .result) (d .before .loop-test .left) (omega arith)
+    (d .last-digit2 .ensures) (l .inv .3))
     (b .put-bytes .ensures)
 
 pub put-decimal-spec : {M : Type 1} → statement M

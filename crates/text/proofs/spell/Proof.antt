@@ -52,8 +52,17 @@ loop-less : tie.Need-loop-less Inv-loop μ-loop
 loop-less c = omega arith
 
 loop-again : tie.Need-loop-again Inv-loop μ-loop
-loop-again c = let p = c .before .before .before .before in let x = p .before .before .before .args in let s = now (x .s) in let n = length-unhex s in let i = p .loop .i in
-    (omega arith, simp length-set (omega arith), rw (p .loop .inv .2, c .pair-value .ensures, ← getD-unhex s i (omega arith), add-one) (paste-suc (now (x .out)) (x .at) (unhex s) i 0 (omega arith) (omega arith)))
+loop-again c =
+    let p = c .before .before .before .before in
+    let x = p .before .before .before .args in
+    let s = now (x .s) in
+    let n = length-unhex s in
+    let i = p .loop .i in (
+      omega arith,
+      simp length-set (omega arith),
+      rw (p .loop .inv .2, c .pair-value .ensures, ← getD-unhex s i (omega arith), add-one)
+          (paste-suc (now (x .out)) (x .at) (unhex s) i 0 (omega arith) (omega arith)),
+    )
 
 add-result : tie.Need-add-result Inv-loop μ-loop
 add-result c = omega (arith, length-unhex (now (c .before .before .before .before .args .s)))

@@ -44,8 +44,11 @@ loop-less : tie.Need-loop-less Inv-loop μ-loop
 loop-less c = omega arith
 
 loop-again : tie.Need-loop-again Inv-loop μ-loop
-loop-again c = let l = c .before .before .before .before .loop in let s = now (c .before .before .before .before .before .before .args .s) in
-    (omega arith, l .inv .1 ∙ decimal-step (l .n) s (l .i) (omega arith) ∙ ap (λ (x : ℕ). decimalFrom (l .n * 10 + x) (drop (l .i + 1) s)) (sym (c .before .digit-value .ensures .0)))
+loop-again c = let l = c .before .before .before .before .loop in let s = now (c .before .before .before .before .before .before .args .s) in (
+  omega arith,
+  l .inv .1 ∙ decimal-step (l .n) s (l .i) (omega arith)
+      ∙ ap (λ (x : ℕ). decimalFrom (l .n * 10 + x) (drop (l .i + 1) s)) (sym (c .before .digit-value .ensures .0)),
+)
 
 cast-t10 : tie.Need-cast-t10 Inv-loop μ-loop
 cast-t10 c = omega arith

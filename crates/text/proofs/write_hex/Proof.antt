@@ -60,9 +60,18 @@ loop-less : tie.Need-loop-less Inv-loop μ-loop
 loop-less c = omega arith
 
 loop-again : tie.Need-loop-again Inv-loop μ-loop
-loop-again c = let p = c .before .before .before .before .before in let x = p .before .before .before .args in let v = now (x .v) in let n = length-hexOf v in let i = p .loop .i in
-    let e : 2 * (i + 1) ≡ 2 * i + 2 = omega arith in
-    (omega arith, simp length-set (omega arith), rw (p .loop .inv .2, c .hex-digit2 .ensures, c .before .before .hex-digit .ensures, ← getD-high v i (omega arith), ← getD-low v i (omega arith), e) (paste-two (now (x .out)) (x .at) (hexOf v) (2 * i) (omega arith) (omega arith)))
+loop-again c =
+    let p = c .before .before .before .before .before in
+    let x = p .before .before .before .args in
+    let v = now (x .v) in
+    let n = length-hexOf v in
+    let i = p .loop .i in
+    let e : 2 * (i + 1) ≡ 2 * i + 2 = omega arith in (
+      omega arith,
+      simp length-set (omega arith),
+      rw (p .loop .inv .2, c .hex-digit2 .ensures, c .before .before .hex-digit .ensures, ← getD-high v i (omega arith), ← getD-low v i (omega arith), e)
+          (paste-two (now (x .out)) (x .at) (hexOf v) (2 * i) (omega arith) (omega arith)),
+    )
 
 mul-result : tie.Need-mul-result Inv-loop μ-loop
 mul-result c = omega arith

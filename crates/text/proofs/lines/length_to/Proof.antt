@@ -21,7 +21,10 @@ shared-slice-read-if1 : tie.Need-shared-slice-read-if1 Inv-loop μ-loop
 shared-slice-read-if1 c = omega arith
 
 returns : tie.Need-returns Inv-loop μ-loop
-returns c = let l = c .before .before .before .loop in let x = c .before .before .before .before .args in omega (arith, l .inv, scan-found (x .b) (now (x .s)) (l .i) (c .before .before .loop-test .taken) (c .if1 .taken))
+returns c =
+    let l = c .before .before .before .loop in
+    let x = c .before .before .before .before .args in
+    omega (arith, l .inv, scan-found (x .b) (now (x .s)) (l .i) (c .before .before .loop-test .taken) (c .if1 .taken))
 
 add-i : tie.Need-add-i Inv-loop μ-loop
 add-i c = omega arith
@@ -30,7 +33,10 @@ loop-less : tie.Need-loop-less Inv-loop μ-loop
 loop-less c = omega arith
 
 loop-again : tie.Need-loop-again Inv-loop μ-loop
-loop-again c = let l = c .before .before .before .loop in let x = c .before .before .before .before .args in omega (arith, l .inv, scan-on (x .b) (now (x .s)) (l .i) (c .before .before .loop-test .taken) (c .if1 .left))
+loop-again c =
+    let l = c .before .before .before .loop in
+    let x = c .before .before .before .before .args in
+    omega (arith, l .inv, scan-on (x .b) (now (x .s)) (l .i) (c .before .before .loop-test .taken) (c .if1 .left))
 
 returns-2 : tie.Need-returns-2 Inv-loop μ-loop
 returns-2 c = let l = c .before .loop in let x = c .before .before .args in omega (arith, l .inv, scan-end (x .b) (now (x .s)) (l .i) (c .loop-test .left))

@@ -27,10 +27,16 @@ loop-less : tie.Need-loop-less Inv-loop μ-loop
 loop-less c = omega arith
 
 loop-again : tie.Need-loop-again Inv-loop μ-loop
-loop-again c = let l = c .before .before .loop in let s = now (c .before .before .before .before .args .s) in (omega arith, omega arith, c .next-line .ensures ∙ ap (nextLine s) (l .inv .2) ∙ sym (start-next (l .i) s (l .inv .0)))
+loop-again c =
+    let l = c .before .before .loop in
+    let s = now (c .before .before .before .before .args .s) in
+    (omega arith, omega arith, c .next-line .ensures ∙ ap (nextLine s) (l .inv .2) ∙ sym (start-next (l .i) s (l .inv .0)))
 
 returns : tie.Need-returns Inv-loop μ-loop
-returns c = let l = c .before .loop in let x = c .before .before .before .args in l .inv .2 ∙ start-reached (x .k) (l .i) (now (x .s)) (l .inv .0) (l .inv .1) (c .loop-test .left)
+returns c =
+    let l = c .before .loop in
+    let x = c .before .before .before .args in
+    l .inv .2 ∙ start-reached (x .k) (l .i) (now (x .s)) (l .inv .0) (l .inv .1) (c .loop-test .left)
 
 pub start-of-spec : {M : Type 1} → statement M
 start-of-spec =
