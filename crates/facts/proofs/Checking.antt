@@ -43,7 +43,6 @@ key-message-long f v d s e h =
     rest false z = omega (arith, eqb-true (length (val PublicKeyChallenge v)) saltSize z, part-most d saltSize saltSize)
 
 pub of-checkWallet : Facts checkWallet
-unfolding checkWallet
 of-checkWallet =
     record {
       shape = λ f v a s. shape-with-counters f s (checkedOnce (f .front .counters));
@@ -69,7 +68,6 @@ of-checkWallet =
     }
 
 pub of-verifyCard : Facts verifyCard
-unfolding verifyCard
 of-verifyCard =
     record {
       shape = λ f v a s. s;
@@ -80,7 +78,6 @@ of-verifyCard =
     }
 
 pub of-validateCard : Facts validateCard
-unfolding validateCard
 of-validateCard =
     record {
       shape = λ f v a s. shape-with-counters f s (validatedOnce (f .front .counters));

@@ -25,7 +25,6 @@ held-weight : (t : ℕ) (d : List ℕ) → weight (heldField t d) ≤ length d +
 held-weight t d = let x = weight-cond (eqb (length d) 0) [] (fld t d ∷ []) in omega arith
 
 pub of-readUserData : Facts readUserData
-unfolding readUserData
 of-readUserData =
     record {
       shape = λ f v a s. s;
@@ -47,7 +46,6 @@ stored-long : (t : ℕ) (v : View) (b : Block) → length (b .bytes) ≡ dataRoo
 stored-long t v b e = by-cases (λ (z : Block). length (z .bytes) ≡ dataRoom) (has t v) (λ _. held-block-long (val t v)) (λ _. e)
 
 pub of-writeUserData : Facts writeUserData
-unfolding writeUserData
 of-writeUserData =
     record {
       shape = λ f v a s.
@@ -89,7 +87,6 @@ note f v e =
     count false z = omega arith
 
 pub of-writeIssuerData : Facts writeIssuerData
-unfolding writeIssuerData
 of-writeIssuerData =
     record {
       shape = λ f v a s.
@@ -102,7 +99,6 @@ of-writeIssuerData =
     }
 
 pub of-readIssuerData : Facts readIssuerData
-unfolding readIssuerData
 of-readIssuerData =
     record {
       shape = λ f v a s. s;

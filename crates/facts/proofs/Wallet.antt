@@ -24,7 +24,6 @@ use Rattle.facts.proofs.Row.{Facts}
 use Rattle.facts.proofs.Sizes.{load, weight-cond, key-long, last-long, name-long, hashes-long}
 
 pub of-readCard : Facts readCard
-unfolding readCard
 of-readCard =
     record {
       shape = λ f v a s. s;
@@ -41,7 +40,6 @@ of-readCard =
     }
 
 pub of-createWallet : Facts createWallet
-unfolding createWallet
 of-createWallet =
     record {
       shape = λ f v a s.
@@ -54,7 +52,6 @@ of-createWallet =
     }
 
 pub of-setPin : Facts setPin
-unfolding setPin
 of-setPin =
     record {
       shape = λ f v a s. s;
@@ -87,7 +84,6 @@ sign-shape f n a s =
     shape-with-last (withCounters (risen (f .front .counters)) w) x (heldLast a) (held-last-long a)
 
 pub of-sign : Facts sign
-unfolding sign
 of-sign =
     record {
       shape = λ f v a s. by-cases ShapeFace (isNew v) (λ _. sign-shape f (count v) a s) (λ _. s);
@@ -101,7 +97,6 @@ of-sign =
     }
 
 pub of-purgeWallet : Facts purgeWallet
-unfolding purgeWallet
 of-purgeWallet =
     record {
       shape = λ f v a s.

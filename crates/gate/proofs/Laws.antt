@@ -15,7 +15,7 @@ use Rattle.manual.specs.declared.Command.{Command}
 use Rattle.manual.specs.declared.Verdict.{Verdict}
 use Rattle.manual.specs.declared.Verdict.the-variants.{Pass, Stop}
 use Rattle.manual.specs.Request.{lcOf, fits, command}
-use Rattle.manual.specs.Row.{Matched, Rule, gateOf, headRules, formRules, entryRules, ownRules, rules, passed}
+use Rattle.manual.specs.Row.{Matched, Row, Rule, gateOf, headRules, formRules, entryRules, ownRules, rules, passed}
 use Rattle.manual.specs.Commands.{row}
 use Rattle.manual.specs.Settle.{matched, judgedBy}
 use Rattle.gate.specs.Gate.{entryOf, ownOf, headOf, laterOf, judgedOf}
@@ -99,10 +99,11 @@ module _ (w : Bool) (c : Card) (v : View) (q : List ℕ) where
   in-groups =
       let r = row (command q) in
       let m = matched (c .codes) v in
+      let fs = formRules r (c .face) w v q in
       let xs = entryRules r m (c .face) v in
       let ys = ownRules r m (c .face) v in
-      gate-append (headRules q) (formRules w q ++ (xs ++ ys)) (passed q)
-      ∙ ap (gateOf (headRules q)) (gate-append (formRules w q) (xs ++ ys) (passed q) ∙ ap (gateOf (formRules w q)) (gate-append xs ys (passed q)))
+      gate-append (headRules q) (fs ++ (xs ++ ys)) (passed q)
+      ∙ ap (gateOf (headRules q)) (gate-append fs (xs ++ ys) (passed q) ∙ ap (gateOf fs) (gate-append xs ys (passed q)))
 
   pub at-head : {h : Verdict} {n a : ℕ} → h ≡ headOf q → h ≡ Stop n a → judgedOf w c v q ≡ Stop n a
   at-head eh d = in-groups ∙ gate-stops (headRules q) (command q) (laterOf (command q) w c v q) (sym eh ∙ d)
@@ -113,16 +114,22 @@ module _ (w : Bool) (c : Card) (v : View) (q : List ℕ) where
       ∙ gate-passes (headRules q) (command q) (laterOf (command q) w c v q) (sym eh ∙ d) .0
       ∙ ap (λ l. laterOf l w c v q) (sym (head-command q eh d))
 
-  module _ (k : Command) {g : Verdict} (eg : g ≡ gateOf (formRules w q) (Pass k)) where
+  module _ (k : Command) {g : Verdict} (any : (r : Row) (f : Face) (v′ : View) → g ≡ gateOf (formRules r f w v′ q) (Pass k)) where
+    abbrev forms : List Rule
+    forms = formRules (row k) (c .face) w v q
+
+    eg : g ≡ gateOf forms (Pass k)
+    eg = any (row k) (c .face) v
+
     pub at-form : {n a : ℕ} → g ≡ Stop n a → g ≡ laterOf k w c v q
-    at-form d = d ∙ sym (gate-stops (formRules w q) k (entryOf k c v (ownOf k c v (Pass k))) (sym eg ∙ d))
+    at-form d = d ∙ sym (gate-stops forms k (entryOf k c v (ownOf k c v (Pass k))) (sym eg ∙ d))
 
     module _ {l : Command} (dg : g ≡ Pass l) {e : Verdict} (ee : e ≡ entryOf k c v (Pass k)) where
       abbrev entries : List Rule
       entries = entryRules (row k) (matched (c .codes) v) (c .face) v
 
       form-passes : laterOf k w c v q ≡ entryOf k c v (ownOf k c v (Pass k))
-      form-passes = gate-passes (formRules w q) k (entryOf k c v (ownOf k c v (Pass k))) (sym eg ∙ dg) .0
+      form-passes = gate-passes forms k (entryOf k c v (ownOf k c v (Pass k))) (sym eg ∙ dg) .0
 
       pub at-entry : {n a : ℕ} → e ≡ Stop n a → e ≡ laterOf k w c v q
       at-entry d = d ∙ sym (form-passes ∙ gate-stops entries k (ownOf k c v (Pass k)) (sym ee ∙ d))

@@ -24,7 +24,10 @@ pin2Ok k c v = not (row k .pin2 v) || holds PIN2 v (c .codes .pin2)
 abbrev pub cvcOk : Command → Card → View → Bool
 cvcOk k c v = not (asksCvc (row k) (c .face)) || holds CVC v (c .face .front .fixed .cvc)
 
--- checks 6 to 9, and 10 to 12, each with what is handed over where they hold
+-- checks 4 and 5 of a request q, 6 to 9, and 10 to 12, each with what is handed over where they hold
+abbrev pub formOf : Command → Bool → Card → View → List ℕ → Verdict → Verdict
+formOf k formed c v q g = gateOf (formRules (row k) (c .face) formed v q) g
+
 abbrev pub entryOf : Command → Card → View → Verdict → Verdict
 entryOf k c v g = gateOf (entryRules (row k) (matched (c .codes) v) (c .face) v) g
 
@@ -36,7 +39,7 @@ abbrev pub headOf : List ℕ → Verdict
 headOf q = gateOf (headRules q) (passed q)
 
 abbrev pub laterOf : Command → Bool → Card → View → List ℕ → Verdict
-laterOf k formed c v q = gateOf (formRules formed q) (entryOf k c v (ownOf k c v (Pass k)))
+laterOf k formed c v q = formOf k formed c v q (entryOf k c v (ownOf k c v (Pass k)))
 
 abbrev pub judgedOf : Bool → Card → View → List ℕ → Verdict
 judgedOf formed c v q = judgedBy formed v (matched (c .codes) v) (c .face) q

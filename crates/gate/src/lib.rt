@@ -15,11 +15,12 @@ ghost use mathlib.Core.Bool.{_&&_, _||_};
 ghost use lib.ListN.{getD};
 ghost use lib.Dec.{eqb};
 ghost use Rattle.wire.specs.Wire.{verdict};
-ghost use Rattle.fields.specs.Fields.{holds};
+ghost use Rattle.fields.specs.Fields.{View, holds};
 ghost use Rattle.sent.specs.Sent.{viewBy};
+ghost use Rattle.card.specs.declared.Face.{Face};
 ghost use Rattle.card.specs.Image.{decode};
 ghost use Rattle.manual.specs.Tags.{PIN1};
-ghost use Rattle.manual.specs.Row.{plain, allowed, asksCvc, gateOf, formRules};
+ghost use Rattle.manual.specs.Row.{Row, plain, allowed, asksCvc, gateOf, formRules};
 ghost use Rattle.manual.specs.Commands.{row};
 ghost use Rattle.checks.specs.Columns.{conditionsOf};
 ghost use Rattle.gate.specs.Gate.{cidOk, pin2Ok, cvcOk, entryOf, ownOf, headOf, laterOf};
@@ -65,7 +66,7 @@ pub fn header(q: &[u8]) -> Verdict
 
 // Checks 4 and 5, and then what is handed over.
 fn form(q: &[u8], whole: bool, pass: Verdict) -> Verdict
-    ensures { λ r. ⌜ r ≡ gateOf (formRules whole (now (q .entry))) pass ⌝ }
+    ensures { λ r. ⌜ ((x : Row) (f : Face) (v : View) → r ≡ gateOf (formRules x f whole v (now (q .entry))) pass) ⌝ }
 {
     let plain = is_plain(q);
     let bare = no_parameters(q);

@@ -19,7 +19,7 @@ use Rattle.manual.specs.declared.Verdict.the-variants.{Pass, Stop}
 use Rattle.manual.specs.Request.{command}
 use Rattle.manual.specs.Row.{Matched, Question, asked, eachAsked, shaped, passed}
 use Rattle.manual.specs.Commands.{row}
-use Rattle.manual.specs.Settle.{Call, sentIn, matched, judgedBy, wordOf, Said, done, answered, said, saidBy, cardAfter, questionsOf}
+use Rattle.manual.specs.Settle.{holding, Call, sentIn, matched, judgedBy, wordOf, Said, done, answered, said, saidBy, cardAfter, questionsOf}
 use Rattle.manual.specs.Settle.{settled, settledOf, lent, askedFor, askedOf, posed, roomy}
 use Rattle.story.specs.Sums.{isDone}
 use Rattle.history.specs.Demands.{AnyCard, askStop, settleStop, Demand2}
@@ -43,13 +43,13 @@ module _ (m : List ℕ) (i : Call) where
   x = matched (decode m .codes) (sentIn (i .request))
 
   abbrev number : Said → ℕ
-  number z = lent z (cardAfter z (decode m .codes) (i .request)) (i .out) (i .next) .result .number
+  number z = lent z (cardAfter z (decode m .codes) (i .request)) (i .buffers .out) (i .buffers .next) .result .number
 
   abbrev Goal : Verdict → Type 0
   Goal z =
       let s : Said = saidBy z x f (i .request) (i .draw) (i .answers) in
-      Agree i (posed (wordOf z) (asked (questionsOf z f (i .request) (i .draw))) (i .page))
-      (lent s (cardAfter s (decode m .codes) (i .request)) (i .out) (i .next))
+      Agree i (posed (wordOf z) (asked (questionsOf z f (i .request) (i .draw))) (i .buffers .page))
+      (lent s (cardAfter s (decode m .codes) (i .request)) (i .buffers .out) (i .buffers .next))
 
   -- 0 is not 4
   zero-four : {A : Type 0} → _≡_ {A = ℕ} 0 4 → A
@@ -67,7 +67,7 @@ module _ (m : List ℕ) (i : Call) where
       let l : List Question = r .questions f v (i .draw) in
       record {
         these = l;
-        bytes = take-at (asked l) (drop (length (asked l)) (i .page)) (length (asked l)) refl;
+        bytes = take-at (asked l) (drop (length (asked l)) (i .buffers .page)) (length (asked l)) refl;
         refuses = λ e. clash refl e;
         four =
             by-cases (λ z. number z ≡ 4 → (_≡_ {A = ℕ} swProcessCompleted swProcessCompleted) × (shaped l (i .answers) ≡ false)) (shaped l (i .answers))
@@ -79,15 +79,15 @@ module _ (m : List ℕ) (i : Call) where
         fits = λ _. by-cases (λ z. shaped l (i .answers) ≡ false → number z ≡ 4) (shaped l (i .answers)) (λ y n. clash y n) (λ _ _. refl);
       }
 
-  agree-card : Agree i (askedOf x f (i .request) (i .draw) (i .page)) (settledAt m i)
+  agree-card : Agree i (askedOf x f (i .request) (i .draw) (i .buffers .page)) (settledAt m i)
   unfolding askedOf settledOf said judgedBy
   agree-card = by-checks Goal (all (row k) x f (i .request)) (passed (i .request)) (words (row k) x f (i .request)) (λ n w _ e. stopped n w e) (λ _. passes)
 
-agree-model : (m : List ℕ) (i : Call) → askStop m i ≡ 0 → settleStop m i ≡ 0 → Agree i (askedFor m i) (settled m i)
+agree-model : (m : List ℕ) (i : Call) → askStop m i ≡ 0 → settleStop m i ≡ 0 → Agree i (askedFor (holding m) i) (settled (holding m) i)
 unfolding askedFor settled
 agree-model m i a b =
-    let y = stop-none (isCard m) (leb questionsRoom (length (i .page))) (eqb (length (i .draw)) drawSize) a in
-    let z = stop-none (isCard m) (roomy (length (i .out)) (length (i .next))) (eqb (length (i .draw)) drawSize) b in
+    let y = stop-none (isCard m) (leb questionsRoom (length (i .buffers .page))) (eqb (length (i .draw)) drawSize) a in
+    let z = stop-none (isCard m) (roomy (length (i .buffers .out)) (length (i .buffers .next))) (eqb (length (i .draw)) drawSize) b in
     rw (y .0, y .1 .0, y .1 .1, z .1 .0) (agree-card m i)
 
 pub ask-agrees : (f : AnyCard) → Demand2 f → (m : List ℕ) (i : Call) → askStop m i ≡ 0 → settleStop m i ≡ 0 → Agree i (f .ask m i) (f .settle m i)

@@ -16,7 +16,6 @@ use Rattle.history.proofs.Conduct.{Conduct, quiet, quietly, not-purged,
 
 module _ (m : Matched) (f : Face) (q d a : List ℕ) where
   pub of-checkWallet : Passed checkWallet m f (sentIn q) → Conduct CheckWallet f q d a
-  unfolding checkWallet
   of-checkWallet p =
       record {
         reports =
@@ -31,7 +30,6 @@ module _ (m : Matched) (f : Face) (q d a : List ℕ) where
       }
 
   pub of-verifyCard : Passed verifyCard m f (sentIn q) → Conduct VerifyCard f q d a
-  unfolding verifyCard
   of-verifyCard p =
       record {
         reports = quietly _ _ refl;
@@ -42,7 +40,6 @@ module _ (m : Matched) (f : Face) (q d a : List ℕ) where
       }
 
   pub of-validateCard : Passed validateCard m f (sentIn q) → Conduct ValidateCard f q d a
-  unfolding validateCard
   of-validateCard p =
       record {
         reports = quietly _ _ refl;

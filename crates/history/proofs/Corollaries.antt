@@ -68,7 +68,6 @@ module _ (c : Card) (q d a : List ℕ) where
       )
 
   sign-cost : signedNew (tap q r) ≡ true → Cost c (after c q d a) (count v)
-  unfolding sign
   sign-cost e =
       let w = both-true (did Sign (tap q r)) (isNew v) e in
       let z = after-sign (w .0) in
@@ -78,7 +77,6 @@ module _ (c : Card) (q d a : List ℕ) where
       rw (z .1, w .1) (record { remaining = omega arith; signedHashes = omega arith; few = n .few (w .1) })
 
   repeat-card : did Sign (tap q r) ≡ true → isNew v ≡ false → after c q d a ≡ c
-  unfolding sign
   repeat-card e n = after-sign e .1 ∙ rw n refl
 
 -- FIVE HASHES, or any number of them, cost one signature and count as five
@@ -163,7 +161,7 @@ signatures-stand f h sh m e is i n =
 pub provider-signs :
     (f : AnyCard) → Demand3 f → (sh : Sheet) (m : List ℕ) → Fresh sh m → (is : List Call) (i : Call) → (provider : List ℕ → List ℕ)
     → signedNew (tapBy f (left f m is) i) ≡ true
-    → questionsRoom ≤ length (i .page)
+    → questionsRoom ≤ length (i .buffers .page)
     → i .answers ≡ provider (questions (f .ask (left f m is) i))
     → val Signature (toldIn (response (f .settle (left f m is) i)))
     ≡ provider

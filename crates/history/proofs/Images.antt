@@ -18,7 +18,7 @@ use Rattle.cards.proofs.Shape.{length-encode}
 use Rattle.cards.proofs.Round.{decode-encode, shape-decode, is-card-length}
 use Rattle.manual.specs.Words.{questionsRoom, drawSize}
 use Rattle.manual.specs.Row.{asked, eachAsked}
-use Rattle.manual.specs.Settle.{Call, sentIn, matched, Said, done, saidTo, cardAfter, Settled, settled, settledOf, lent, untouched, roomy, askedFor, askedOf}
+use Rattle.manual.specs.Settle.{holding, Call, sentIn, matched, Said, done, saidTo, cardAfter, Settled, settled, settledOf, lent, untouched, roomy, askedFor, askedOf}
 use Rattle.story.specs.Sums.{Sheet, History, tap}
 use Rattle.story.specs.Buffers.{questions, response, image}
 use Rattle.history.specs.Demands.{AnyCard, Demand2, tapBy, imageBy, left, played, Fresh, OneMore, Demand3}
@@ -30,7 +30,7 @@ use Rattle.history.proofs.Next.{one-more, no-more}
 
 -- THE MANUAL as a card
 abbrev pub model : AnyCard
-model = record { ask = askedFor; settle = settled }
+model = record { ask = λ m i. askedFor (holding m) i; settle = λ m i. settled (holding m) i }
 
 -- numbers other than 0 have no response, and leave the card
 pub quiet : (c : Card) (q d a : List ℕ) → eqb (saidTo c q d a .number) 0 ≡ false → (saidTo c q d a .response ≡ []) × (after c q d a ≡ c)
@@ -67,18 +67,18 @@ abbrev pub cardAt : List ℕ → Call → Card
 cardAt m i = after (decode m) (i .request) (i .draw) (i .answers)
 
 abbrev pub settledAt : List ℕ → Call → Settled
-settledAt m i = settledOf (decode m) (i .request) (i .draw) (i .answers) (i .out) (i .next)
+settledAt m i = settledOf (decode m) (i .request) (i .draw) (i .answers) (i .buffers .out) (i .buffers .next)
 
 -- THE CASES OF A CALL: numbers 1 to 3, or the card is looked at
 pub by-call :
-    (P : Settled → Type 0) (m : List ℕ) (i : Call) → ((n : ℕ) → eqb n 0 ≡ false → P (untouched n (i .out) (i .next)))
-    → (isCard m ≡ true → roomy (length (i .out)) (length (i .next)) ≡ true → eqb (length (i .draw)) drawSize ≡ true → P (settledAt m i))
-    → P (settled m i)
+    (P : Settled → Type 0) (m : List ℕ) (i : Call) → ((n : ℕ) → eqb n 0 ≡ false → P (untouched n (i .buffers .out) (i .buffers .next)))
+    → (isCard m ≡ true → roomy (length (i .buffers .out)) (length (i .buffers .next)) ≡ true → eqb (length (i .draw)) drawSize ≡ true → P (settledAt m i))
+    → P (settled (holding m) i)
 unfolding settled
 by-call P m i f g =
     by-cases P (isCard m)
     (λ x.
-    by-cases P (roomy (length (i .out)) (length (i .next)))
+    by-cases P (roomy (length (i .buffers .out)) (length (i .buffers .next)))
     (λ y. by-cases P (eqb (length (i .draw)) drawSize) (λ z. g x y z) (λ _. f 3 refl))
     (λ _. f 2 refl))
     (λ _. f 1 refl)
@@ -86,7 +86,7 @@ by-call P m i f g =
 pub response-is : (m : List ℕ) (i : Call) → response (settledAt m i) ≡ saidAt m i .response
 unfolding settledOf
 response-is m i =
-    read-response (saidAt m i) (cardAt m i) (i .out) (i .next) (eqb (saidAt m i .number) 0) refl
+    read-response (saidAt m i) (cardAt m i) (i .buffers .out) (i .buffers .next) (eqb (saidAt m i .number) 0) refl
     (λ e. quiet (decode m) (i .request) (i .draw) (i .answers) e .0)
 
 module _ (m : List ℕ) (i : Call) (o : isCard m ≡ true) where
@@ -95,7 +95,7 @@ module _ (m : List ℕ) (i : Call) (o : isCard m ≡ true) where
 
   pub image-bytes : image m (settledAt m i) ≡ cond (eqb (saidAt m i .number) 0) (encode (cardAt m i)) m
   unfolding settledOf
-  image-bytes = read-image m (saidAt m i) (cardAt m i) (i .out) (i .next) (length-encode (cardAt m i) shape-is)
+  image-bytes = read-image m (saidAt m i) (cardAt m i) (i .buffers .out) (i .buffers .next) (length-encode (cardAt m i) shape-is)
 
   pub image-is : decode (image m (settledAt m i)) ≡ cardAt m i
   image-is =
@@ -106,23 +106,23 @@ module _ (m : List ℕ) (i : Call) (o : isCard m ≡ true) where
 
 -- ask: zero questions where the card has none, whatever is lent
 module _ (m : List ℕ) (i : Call) where
-  pub asks-none : xs (decode m) (i .request) (i .draw) ≡ [] → questions (askedFor m i) ≡ []
+  pub asks-none : xs (decode m) (i .request) (i .draw) ≡ [] → questions (askedFor (holding m) i) ≡ []
   unfolding askedFor askedOf asked eachAsked joined
   asks-none e =
       by-cases (λ z. questions z ≡ []) (isCard m)
       (λ _.
-      by-cases (λ z. questions z ≡ []) (leb questionsRoom (length (i .page)))
+      by-cases (λ z. questions z ≡ []) (leb questionsRoom (length (i .buffers .page)))
       (λ _. by-cases (λ z. questions z ≡ []) (eqb (length (i .draw)) drawSize) (λ _. rw e refl) (λ _. refl))
       (λ _. refl))
       (λ _. refl)
 
   asks-all :
-      isCard m ≡ true → eqb (length (i .draw)) drawSize ≡ true → questionsRoom ≤ length (i .page)
-      → questions (askedFor m i) ≡ asked (xs (decode m) (i .request) (i .draw))
+      isCard m ≡ true → eqb (length (i .draw)) drawSize ≡ true → questionsRoom ≤ length (i .buffers .page)
+      → questions (askedFor (holding m) i) ≡ asked (xs (decode m) (i .request) (i .draw))
   unfolding askedFor askedOf
   asks-all e l h =
       let v : List ℕ = asked (xs (decode m) (i .request) (i .draw)) in
-      rw (e, le-leb questionsRoom (length (i .page)) h, l) (take-at v (drop (length v) (i .page)) (length v) refl)
+      rw (e, le-leb questionsRoom (length (i .buffers .page)) h, l) (take-at v (drop (length v) (i .buffers .page)) (length v) refl)
 
 -- EVERY CALL keeps card and history in step
 fits-call :
@@ -133,11 +133,11 @@ fits-call sh m h i e =
     (λ o _ _. rw (image-is m i o, response-is m i) (fits-tap (decode m) (i .request) (i .draw) (i .answers) sh h e))
 
 more-call :
-    (sh : Sheet) (m : List ℕ) (h : History) (i : Call) → Fits sh (decode m) h → OneMore sh h i (questions (askedFor m i)) (response (settled m i))
+    (sh : Sheet) (m : List ℕ) (h : History) (i : Call) → Fits sh (decode m) h → OneMore sh h i (questions (askedFor (holding m) i)) (response (settled (holding m) i))
 more-call sh m h i e =
-    by-call (λ z. OneMore sh h i (questions (askedFor m i)) (response z)) m i
-    (λ n k. rw k (no-more sh (decode m) h e i (questions (askedFor m i)) (asks-none m i)))
-    (λ x y z. rw (response-is m i) (one-more sh (decode m) h e i (questions (askedFor m i)) (asks-all m i x z) (asks-none m i)))
+    by-call (λ z. OneMore sh h i (questions (askedFor (holding m) i)) (response z)) m i
+    (λ n k. rw k (no-more sh (decode m) h e i (questions (askedFor (holding m) i)) (asks-none m i)))
+    (λ x y z. rw (response-is m i) (one-more sh (decode m) h e i (questions (askedFor (holding m) i)) (asks-all m i x z) (asks-none m i)))
 
 -- any calls keep it
 fits-all :

@@ -36,11 +36,10 @@ signBytes g =
     written (signFields (g .front .fixed .cid) (lastOf (g .last)) (g .front .wallet .remaining) (g .front .wallet .signed)) ++ be2 swProcessCompleted
 
 sign-says : (m : Matched) (f : Face) (v : View) (d a : List ℕ) → done sign m f v d a .response ≡ signBytes (sign .next f v a)
-unfolding done sign signBytes
+unfolding done signBytes
 sign-says m f v d a = refl
 
 alive-after : (m : Matched) (f : Face) (v : View) (a : List ℕ) → Passed sign m f v → sign .next f v a .front .wallet .status ≡ 2
-unfolding sign
 alive-after m f v a h = still (isNew v) f (count v) a ∙ needed m f v h .alive
 
 module _ (sh : Sheet) (c : Card) (h : History) (i : Fits sh c h) (t : Call) where
@@ -140,7 +139,7 @@ module _ (sh : Sheet) (c : Card) (h : History) (i : Fits sh c h) (t : Call) wher
         carried-by (y .0) .isAsked ∙ subst (λ j. row j .questions f v d ≡ []) (sym (y .1)) (no-question f v d n),
       )
 
-  rightful : (x : List ℕ) → (questionsRoom ≤ length (t .page) → x ≡ asked (xs c q d)) → signedNew (tap q r) ≡ true → Rightful sh h t x r
+  rightful : (x : List ℕ) → (questionsRoom ≤ length (t .buffers .page) → x ≡ asked (xs c q d)) → signedNew (tap q r) ≡ true → Rightful sh h t x r
   rightful x hx e =
       let w = both-true (did Sign (tap q r)) (isNew v) e in
       let y = did-sign (tap q r) (w .0) in
@@ -173,7 +172,7 @@ module _ (sh : Sheet) (c : Card) (h : History) (i : Fits sh c h) (t : Call) wher
       (λ p z k. absurd (no-way p))
       (λ p k. absurd (no-way p))
 
-  pub one-more : (x : List ℕ) → (questionsRoom ≤ length (t .page) → x ≡ asked (xs c q d)) → (xs c q d ≡ [] → x ≡ []) → OneMore sh h t x r
+  pub one-more : (x : List ℕ) → (questionsRoom ≤ length (t .buffers .page) → x ≡ asked (xs c q d)) → (xs c q d ≡ [] → x ≡ []) → OneMore sh h t x r
   one-more x hx h0 =
       record {
         signs = rightful x hx;

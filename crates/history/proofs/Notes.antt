@@ -68,9 +68,9 @@ old-model m i g n =
           (λ n k. rw k refl)
           (λ _ _ _. ap accepted (response-is m i) ∙ (ap (λ z. accepted (z .response)) (o .said) ∙ (accepts [] (s .word) ∙ o .refusal)));
       word = λ e.
-          let z = stop-none (isCard m) (roomy (length (i .out)) (length (i .next))) (eqb (length (i .draw)) drawSize) e in
+          let z = stop-none (isCard m) (roomy (length (i .buffers .out)) (length (i .buffers .next))) (eqb (length (i .draw)) drawSize) e in
           rw (z .0, z .1 .0, z .1 .1)
-          (ap isRefusal (word-is s (s .word) (decode m .face) (cardAt m i) (i .out) (i .next) (o .said)) ∙ o .word);
+          (ap isRefusal (word-is s (s .word) (decode m .face) (cardAt m i) (i .buffers .out) (i .buffers .next) (o .said)) ∙ o .word);
       stays = keeps-where (λ _. Unit {0}) m i (λ _. ap (λ z. cardAfter z (decode m .codes) (i .request)) (o .said)) tt;
     }
 
@@ -107,7 +107,7 @@ climbs-all m (i ∷ is) g =
 stored-card :
     (c : Card) (q d a : List ℕ) → guarded (c .face) ≡ true → did WriteIssuerData (tap q (saidTo c q d a .response)) ≡ true
     → after c q d a .face .held .issuer .counter ≡ sentCounter (sentIn q)
-unfolding done writeIssuerData
+unfolding done
 stored-card c q d a g e =
     let y = did-note (tap q (saidTo c q d a .response)) e in
     let b = carried (matched (c .codes) (sentIn q)) (c .face) q d a (y .0) in

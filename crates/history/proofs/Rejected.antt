@@ -13,7 +13,7 @@ use Rattle.manual.specs.declared.Command.the-variants.{ReadCard, SetPin, Sign}
 use Rattle.manual.specs.declared.Verdict.{Verdict}
 use Rattle.manual.specs.declared.Verdict.the-variants.{Pass, Stop}
 use Rattle.manual.specs.Commands.{row}
-use Rattle.manual.specs.Settle.{Call, sentIn, matched, said, saidBy, questionsOf, settled, settledOf, askedFor, askedOf}
+use Rattle.manual.specs.Settle.{holding, Call, sentIn, matched, said, saidBy, questionsOf, settled, settledOf, askedFor, askedOf}
 use Rattle.manual.specs.Settle.{judgedBy as judgement}
 use Rattle.history.specs.Demands.{AnyCard, Demand2, left, Demand3}
 use Rattle.history.specs.Wrong.{outside, judgedBy, asksBy, saysBy, honest}
@@ -40,7 +40,7 @@ honest-accepted =
     }
 
 -- demand 2, at a call on the image that calls of the manual's own left
-by-manual : {f : AnyCard} → Demand2 f → (is : List Call) (i : Call) → f .settle (left model image0 is) i ≡ settled (left model image0 is) i
+by-manual : {f : AnyCard} → Demand2 f → (is : List Call) (i : Call) → f .settle (left model image0 is) i ≡ settled (holding (left model image0 is)) i
 by-manual h is i = h .settles (left model image0 is) i
 
 -- 1. answers 6985 to everything: READ_CARD's response begins with CID

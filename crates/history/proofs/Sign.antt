@@ -40,7 +40,6 @@ hash-answers number curve (suc (suc n)) l a e =
     omega (arith, y, z, length-take signatureSize a, length-drop signatureSize a)
 
 pub answer-size : (f : Face) (v : View) (d a : List ℕ) → isNew v ≡ true → shaped (sign .questions f v d) a ≡ true → length a ≡ count v * signatureSize
-unfolding sign
 answer-size f v d a n e = hash-answers (f .front .wallet .number) (f .front .fixed .curve) (count v) (val TransactionHash v) a (rw n at e)
 
 -- NEEDED
@@ -57,7 +56,6 @@ pub record Needed (m : Matched) (f : Face) (v : View) : Type 0 where
   pub few : isNew v ≡ true → count v ≤ mostHashes
 
 pub needed : (m : Matched) (f : Face) (v : View) → Passed sign m f v → Needed m f v
-unfolding sign
 needed m f v h =
     record {
       pin1 = h .pin1;
@@ -88,12 +86,10 @@ pub record Signed (f : Face) (v : View) (a : List ℕ) (x : List Question) (g : 
 pub new-signed :
     (m : Matched) (f : Face) (v : View) (d a : List ℕ) → Passed sign m f v → isNew v ≡ true → shaped (sign .questions f v d) a ≡ true
     → Signed f v a (sign .questions f v d) (sign .next f v a)
-unfolding sign
 new-signed m f v d a h n e =
     let l = answer-size f v d a n e in
     record { questions = rw n; size = l; last = rw n (last-of-held a (count v) l (needed m f v h .few n)) }
 
 -- and the repeat asks nothing
 pub no-question : (f : Face) (v : View) (d : List ℕ) → isNew v ≡ false → sign .questions f v d ≡ []
-unfolding sign
 no-question f v d n = rw n

@@ -37,14 +37,12 @@ stored-ok t v b o e =
 
 -- what check 12 asks of a note on a protected card
 pub above : (m : Matched) (f : Face) (v : View) → Passed writeIssuerData m f v → guarded f ≡ true → f .held .issuer .counter < sentCounter v
-unfolding writeIssuerData
 above m f v p g =
     let n = f .held .issuer .counter in
     ltb-true n (sentCounter v) (or-false (not (guarded f)) (ltb n (sentCounter v)) (p .conditions) (ap not g))
 
 module _ (m : Matched) (f : Face) (q d a : List ℕ) where
   pub of-readUserData : Passed readUserData m f (sentIn q) → Conduct ReadUserData f q d a
-  unfolding readUserData
   of-readUserData p =
       record {
         reports =
@@ -60,7 +58,6 @@ module _ (m : Matched) (f : Face) (q d a : List ℕ) where
       }
 
   pub of-writeUserData : Passed writeUserData m f (sentIn q) → Conduct WriteUserData f q d a
-  unfolding writeUserData
   of-writeUserData p =
       let v : View = sentIn q in
       record {
@@ -81,7 +78,6 @@ module _ (m : Matched) (f : Face) (q d a : List ℕ) where
       }
 
   pub of-writeIssuerData : Passed writeIssuerData m f (sentIn q) → Conduct WriteIssuerData f q d a
-  unfolding writeIssuerData
   of-writeIssuerData p =
       let v : View = sentIn q in
       record {
@@ -96,7 +92,6 @@ module _ (m : Matched) (f : Face) (q d a : List ℕ) where
       }
 
   pub of-readIssuerData : Passed readIssuerData m f (sentIn q) → Conduct ReadIssuerData f q d a
-  unfolding readIssuerData
   of-readIssuerData p =
       record {
         reports =

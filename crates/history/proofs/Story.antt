@@ -19,9 +19,7 @@ use Rattle.manual.specs.declared.Command.{Command}
 use Rattle.manual.specs.declared.Command.the-variants.{ReadCard, CreateWallet, Sign, PurgeWallet, WriteIssuerData}
 use Rattle.manual.specs.Request.{code, lcOf, insOf}
 use Rattle.manual.specs.Row.{plain, allowed, shaped, asked, eachAsked}
-use Rattle.manual.specs.Wallet.{readCard, createWallet, setPin, sign, purgeWallet, curveName, hashQuestions}
-use Rattle.manual.specs.Checking.{checkWallet, verifyCard, validateCard}
-use Rattle.manual.specs.Storage.{readUserData, writeUserData, writeIssuerData, readIssuerData}
+use Rattle.manual.specs.Wallet.{curveName, hashQuestions}
 use Rattle.manual.specs.Settle.{Call, sentIn, judgedBy, said, done, answered, lent, settledOf, settled, Settled, roomy, askedOf, askedFor}
 use Rattle.story.specs.Sums.{Sheet, History, accepted, made, total, wallets, status, everPurged, given}
 use Rattle.history.specs.Demands.{AnyCard, left, played, Fresh}
@@ -31,8 +29,7 @@ use Rattle.history.proofs.Images.{model}
 unfoldable pub run : AnyCard → List ℕ → Call → Settled
 unfolding settled settledOf lent said judgedBy sentIn viewOf answered done roomy askedFor askedOf asked eachAsked accepted lcOf insOf plain allowed
     shaped wellFormed holds has val restFrom runN stepAt fieldAt written each joined tlv headOf part put room fit placed alike allZero fresh keyOf
-    blockOf lastOf curveName hashQuestions readCard createWallet setPin sign purgeWallet checkWallet verifyCard validateCard readUserData
-    writeUserData writeIssuerData readIssuerData encode encCodes encFront encHeld encFace encFixed encFlags encWallet encKey encCounters encBlock
+    blockOf lastOf curveName hashQuestions encode encCodes encFront encHeld encFace encFixed encFlags encWallet encKey encCounters encBlock
     encIssuer encLast decode isCard okFace okFront okHeld okFlags okRanges okState okKey keySize okBlock okIssuer okLast
 run f m i = f .settle m i
 
@@ -67,9 +64,7 @@ call q a =
       request = q;
       draw = replicate drawSize 0;
       answers = a;
-      page = replicate questionsRoom 0;
-      out = replicate responseRoom 0;
-      next = replicate imageRoom 0;
+      buffers = record { page = replicate questionsRoom 0; out = replicate responseRoom 0; next = replicate imageRoom 0 };
     }
 
 abbrev pub ask0 : Command → List Tagged → List ℕ → Call

@@ -22,7 +22,7 @@ use Rattle.manual.specs.declared.Command.{Command}
 use Rattle.manual.specs.Request.{command}
 use Rattle.manual.specs.Row.{Matched, asked, eachAsked, shaped, passed}
 use Rattle.manual.specs.Commands.{row}
-use Rattle.manual.specs.Settle.{Call, sentIn, matched, judgedBy, wordOf, Said, refused, done, saidTo, cardAfter, fieldsOf, questionsOf}
+use Rattle.manual.specs.Settle.{holding, Call, sentIn, matched, judgedBy, wordOf, Said, refused, done, saidTo, cardAfter, fieldsOf, questionsOf}
 use Rattle.manual.specs.Settle.{Settled, settled, settledOf, settledBy, lent, untouched, outcome, over, askedFor, askedOf, posed, posedBy, roomy}
 use Rattle.facts.proofs.Facts.{small-decode, small-shape, facts, asks, tells}
 use Rattle.story.specs.Sums.{isDone}
@@ -77,10 +77,10 @@ stops true false c x y e = refl
 stops false b c x y e = refl
 
 -- ask
-ask-ends : (m : List ℕ) (i : Call) → Asked i (askedOf (matched (decode m .codes) (sentIn (i .request))) (decode m .face) (i .request) (i .draw) (i .page))
+ask-ends : (m : List ℕ) (i : Call) → Asked i (askedOf (matched (decode m .codes) (sentIn (i .request))) (decode m .face) (i .request) (i .draw) (i .buffers .page))
 unfolding askedOf judgedBy asked eachAsked joined
 ask-ends m i =
-    by-checks (λ z. Asked i (posed (wordOf z) (asked (questionsOf z f q (i .draw))) (i .page))) (all (row k) x f q) (passed q) (words (row k) x f q)
+    by-checks (λ z. Asked i (posed (wordOf z) (asked (questionsOf z f q (i .draw))) (i .buffers .page))) (all (row k) x f q) (passed q) (words (row k) x f q)
     (λ n w _ e. noneAsked w e refl)
     (λ h. allAsked (asked (row k .questions f v (i .draw))) (asks (facts k) f v (i .draw) (small-decode m) (named (row k) x f q h .fields)) refl)
   where
@@ -118,15 +118,15 @@ module _ (m : List ℕ) (i : Call) (o : isCard m ≡ true) (b : Bytes m) where
 
   -- what is said of the card is lent
   abbrev Goal : Said → Type 0
-  Goal z = Ended m i (lent z (cardAfter z (c .codes) q) (i .out) (i .next))
+  Goal z = Ended m i (lent z (cardAfter z (c .codes) q) (i .buffers .out) (i .buffers .next))
 
   -- the old image, written
-  old-next : encode (decode m) ++ drop imageSize (i .next) ≡ over m (i .next)
-  old-next = λ j. card-image m o b j ++ drop (sym (is-card-length m o) j) (i .next)
+  old-next : encode (decode m) ++ drop imageSize (i .buffers .next) ≡ over m (i .buffers .next)
+  old-next = λ j. card-image m o b j ++ drop (sym (is-card-length m o) j) (i .buffers .next)
 
   refuses : (w : ℕ) → isDone w ≡ false → Goal (refused w (c .face))
   unfolding lent
-  refuses w e = refusal w e (λ j. settledBy (outcome 0 w 2) (over (be2 w) (i .out)) (old-next j))
+  refuses w e = refusal w e (λ j. settledBy (outcome 0 w 2) (over (be2 w) (i .buffers .out)) (old-next j))
 
   carries :
       Passed (row k) x (c .face) v → shaped (row k .questions (c .face) v (i .draw)) (i .answers) ≡ true
@@ -141,7 +141,7 @@ module _ (m : List ℕ) (i : Call) (o : isCard m ≡ true) (b : Bytes m) where
       let l : List ℕ = written (fieldsOf (row k) n v (i .draw) (i .answers)) in
       let p = conduct k x (c .face) q (i .draw) (i .answers) h .stays (is-card-face m o) g in
       carriedOut w l (encode d) (done-is k x) (tells (facts k) n v (i .draw) (i .answers) (small-shape (s .face))) (is-card-encode d s p)
-      (λ j. settledBy (outcome 0 w (length-append l (be2 w) j)) (over (l ++ be2 w) (i .out)) (encode d ++ drop (sym (length-encode d s) j) (i .next)))
+      (λ j. settledBy (outcome 0 w (length-append l (be2 w) j)) (over (l ++ be2 w) (i .buffers .out)) (encode d ++ drop (sym (length-encode d s) j) (i .buffers .next)))
 
   settle-ends : Ended m i (settledAt m i)
   unfolding settledOf lent done
@@ -157,14 +157,14 @@ unfolding askedFor settled
 model-demand1 =
     record {
       askStops = λ m i e.
-          stops (isCard m) (leb questionsRoom (length (i .page))) (eqb (length (i .draw)) drawSize) _ (λ n. posedBy (outcome n 0 0) (i .page)) e;
+          stops (isCard m) (leb questionsRoom (length (i .buffers .page))) (eqb (length (i .draw)) drawSize) _ (λ n. posedBy (outcome n 0 0) (i .buffers .page)) e;
       asks = λ m i e.
-          let z = stop-none (isCard m) (leb questionsRoom (length (i .page))) (eqb (length (i .draw)) drawSize) e in
+          let z = stop-none (isCard m) (leb questionsRoom (length (i .buffers .page))) (eqb (length (i .draw)) drawSize) e in
           rw (z .0, z .1 .0, z .1 .1) (ask-ends m i);
       settleStops = λ m i e.
-          stops (isCard m) (roomy (length (i .out)) (length (i .next))) (eqb (length (i .draw)) drawSize) _ (λ n. untouched n (i .out) (i .next)) e;
+          stops (isCard m) (roomy (length (i .buffers .out)) (length (i .buffers .next))) (eqb (length (i .draw)) drawSize) _ (λ n. untouched n (i .buffers .out) (i .buffers .next)) e;
       settles = λ m i b e.
-          let z = stop-none (isCard m) (roomy (length (i .out)) (length (i .next))) (eqb (length (i .draw)) drawSize) e in
+          let z = stop-none (isCard m) (roomy (length (i .buffers .out)) (length (i .buffers .next))) (eqb (length (i .draw)) drawSize) e in
           rw (z .0, z .1 .0, z .1 .1) (settle-ends m i (z .0) b);
     }
 
@@ -185,14 +185,14 @@ refused-at : (m : List ℕ) (i : Call) → isDone (settledAt m i .result .word) 
 unfolding settledOf lent
 refused-at m i = go (eqb (saidAt m i .number) 0) refl
   where
-    go : (b : Bool) → eqb (saidAt m i .number) 0 ≡ b → isDone (lent (saidAt m i) (cardAt m i) (i .out) (i .next) .result .word) ≡ false
+    go : (b : Bool) → eqb (saidAt m i .number) 0 ≡ b → isDone (lent (saidAt m i) (cardAt m i) (i .buffers .out) (i .buffers .next) .result .word) ≡ false
         → cardAt m i ≡ decode m
     go true n e = refused-card (decode m) (i .request) (i .draw) (i .answers) (rw n at e)
     go false n e = quiet (decode m) (i .request) (i .draw) (i .answers) n .1
 
 -- of a call: nothing changes where it is not looked at, nor where the card stays
 pub keeps-where :
-    (P : Settled → Type 0) (m : List ℕ) (i : Call) → (P (settledAt m i) → cardAt m i ≡ decode m) → P (settled m i) → Unchanged m (imageBy model m i)
+    (P : Settled → Type 0) (m : List ℕ) (i : Call) → (P (settledAt m i) → cardAt m i ≡ decode m) → P (settled (holding m) i) → Unchanged m (imageBy model m i)
 keeps-where P m i h =
     by-call (λ z. P z → Unchanged m (image m z)) m i
     (λ n k _. rw k (record { card = refl; bytes = λ _ _. refl }))

@@ -35,7 +35,6 @@ read-reports f true true e g = rw (e, g) (record { signed = λ h. refl; remainin
 
 module _ (m : Matched) (f : Face) (q d a : List ℕ) where
   pub of-readCard : Passed readCard m f (sentIn q) → Conduct ReadCard f q d a
-  unfolding readCard
   of-readCard p =
       record {
         reports = read-reports f (isActive f) (isLoaded f) refl refl;
@@ -46,7 +45,6 @@ module _ (m : Matched) (f : Face) (q d a : List ℕ) where
       }
 
   pub of-setPin : Passed setPin m f (sentIn q) → Conduct SetPin f q d a
-  unfolding setPin
   of-setPin p =
       record {
         reports = quietly _ _ refl;
@@ -81,7 +79,7 @@ key-fits curve a = go (eqb curve 1)
 create-stays :
     (m : Matched) (f : Face) (v : View) (d a : List ℕ) → Passed createWallet m f v → okFace f ≡ true
     → shaped (createWallet .questions f v d) a ≡ true → okFace (createWallet .next f v a) ≡ true
-unfolding createWallet shaped
+unfolding shaped
 create-stays m f v d a p o g =
     let y = valid f o in
     let x = f .front in
@@ -92,7 +90,6 @@ create-stays m f v d a p o g =
     ok-wallet-key f o (created (x .fixed .max) (x .wallet)) (heldKey a) (k .0) (k .1) (held-key-ok (x .fixed .curve) 2 a (z .0) (z .1))
 
 pub of-createWallet : (m : Matched) (f : Face) (q d a : List ℕ) → Passed createWallet m f (sentIn q) → Conduct CreateWallet f q d a
-unfolding createWallet
 of-createWallet m f q d a p =
     record {
       reports = quietly _ _ refl;
@@ -153,7 +150,6 @@ sign-keeps sh f x h q r a i t true n l y z =
     })
 
 pub of-sign : (m : Matched) (f : Face) (q d a : List ℕ) → Passed sign m f (sentIn q) → Conduct Sign f q d a
-unfolding sign
 of-sign m f q d a p =
     let y = needed m f (sentIn q) p in
     record {
@@ -173,7 +169,6 @@ not-two : (r : ℕ) → afterPurge r ≡ 2 → ⊥
 not-two r = by-cases (λ n. n ≡ 2 → ⊥) (eqb r 1) (λ _ e. omega arith) (λ _ e. omega arith)
 
 pub of-purgeWallet : (m : Matched) (f : Face) (q d a : List ℕ) → Passed purgeWallet m f (sentIn q) → Conduct PurgeWallet f q d a
-unfolding purgeWallet
 of-purgeWallet m f q d a p =
     let x = f .front in
     let e : x .wallet .status ≡ 2 = loaded (purgeWallet .needs) (x .wallet .status) (p .allows) refl refl in

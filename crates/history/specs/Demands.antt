@@ -18,7 +18,7 @@ use Rattle.manual.specs.Tags.{CID, PIN1, PIN2, CVC, TransactionHash, Signature,
 use Rattle.manual.specs.declared.Command.the-variants.{Sign}
 use Rattle.manual.specs.Row.{asked}
 use Rattle.manual.specs.Wallet.{isNew, count, hashQuestions}
-use Rattle.manual.specs.Settle.{Call, sentIn, Posed, Settled, askedFor, settled, settledBy, posed, posedBy, outcome, untouched, over, roomy}
+use Rattle.manual.specs.Settle.{holding, Call, sentIn, Posed, Settled, askedFor, settled, settledBy, posed, posedBy, outcome, untouched, over, roomy}
 use Rattle.story.specs.Sums.{Sheet, Tap, History, tap, toldIn, isDone, accepted, ins, did, signedNew}
 use Rattle.story.specs.Sums.{wallets, status, everPurged, made, total, codes, given, usesWallet}
 use Rattle.story.specs.Buffers.{questions, response, image}
@@ -34,35 +34,35 @@ abbrev pub stop : Bool → Bool → Bool → ℕ
 stop card room draw = cond card (cond room (cond draw 0 3) 2) 1
 
 abbrev pub askStop : List ℕ → Call → ℕ
-askStop m i = stop (isCard m) (leb questionsRoom (length (i .page))) (eqb (length (i .draw)) drawSize)
+askStop m i = stop (isCard m) (leb questionsRoom (length (i .buffers .page))) (eqb (length (i .draw)) drawSize)
 
 abbrev pub settleStop : List ℕ → Call → ℕ
-settleStop m i = stop (isCard m) (roomy (length (i .out)) (length (i .next))) (eqb (length (i .draw)) drawSize)
+settleStop m i = stop (isCard m) (roomy (length (i .buffers .out)) (length (i .buffers .next))) (eqb (length (i .draw)) drawSize)
 
 -- ask, then: a status word and zero questions, or 9000 and questions that fit the buffer
 pub data Asked (i : Call) (x : Posed) : Type 0 where
-  noneAsked : (w : ℕ) → isDone w ≡ false → x ≡ posed w [] (i .page) → Asked i x
-  allAsked : (v : List ℕ) → length v ≤ questionsRoom → x ≡ posed swProcessCompleted v (i .page) → Asked i x
+  noneAsked : (w : ℕ) → isDone w ≡ false → x ≡ posed w [] (i .buffers .page) → Asked i x
+  allAsked : (v : List ℕ) → length v ≤ questionsRoom → x ≡ posed swProcessCompleted v (i .buffers .page) → Asked i x
 
 -- settle, then: number 4 and nothing written; a refusal, a response of two bytes, with the old image; or fields that fit the buffer, with a card as the
 -- next image
 pub data Ended (m : List ℕ) (i : Call) (x : Settled) : Type 0 where
-  shapeless : x ≡ untouched 4 (i .out) (i .next) → Ended m i x
-  refusal : (w : ℕ) → isDone w ≡ false → x ≡ settledBy (outcome 0 w 2) (over (be2 w) (i .out)) (over m (i .next)) → Ended m i x
+  shapeless : x ≡ untouched 4 (i .buffers .out) (i .buffers .next) → Ended m i x
+  refusal : (w : ℕ) → isDone w ≡ false → x ≡ settledBy (outcome 0 w 2) (over (be2 w) (i .buffers .out)) (over m (i .buffers .next)) → Ended m i x
   carriedOut :
       (w : ℕ) (fields m′ : List ℕ) → isDone w ≡ true → length fields + 2 ≤ responseRoom → isCard m′ ≡ true
-      → x ≡ settledBy (outcome 0 w (length fields + 2)) (over (fields ++ be2 w) (i .out)) (over m′ (i .next)) → Ended m i x
+      → x ≡ settledBy (outcome 0 w (length fields + 2)) (over (fields ++ be2 w) (i .buffers .out)) (over m′ (i .buffers .next)) → Ended m i x
 
 pub record Demand1 (f : AnyCard) : Type 0 where
-  pub askStops : (m : List ℕ) (i : Call) → eqb (askStop m i) 0 ≡ false → f .ask m i ≡ posedBy (outcome (askStop m i) 0 0) (i .page)
+  pub askStops : (m : List ℕ) (i : Call) → eqb (askStop m i) 0 ≡ false → f .ask m i ≡ posedBy (outcome (askStop m i) 0 0) (i .buffers .page)
   pub asks : (m : List ℕ) (i : Call) → askStop m i ≡ 0 → Asked i (f .ask m i)
-  pub settleStops : (m : List ℕ) (i : Call) → eqb (settleStop m i) 0 ≡ false → f .settle m i ≡ untouched (settleStop m i) (i .out) (i .next)
+  pub settleStops : (m : List ℕ) (i : Call) → eqb (settleStop m i) 0 ≡ false → f .settle m i ≡ untouched (settleStop m i) (i .buffers .out) (i .buffers .next)
   pub settles : (m : List ℕ) (i : Call) → Bytes m → settleStop m i ≡ 0 → Ended m i (f .settle m i)
 
 -- DEMAND 2: it answers and changes the card exactly as the manual says
 pub record Demand2 (f : AnyCard) : Type 0 where
-  pub asks : (m : List ℕ) (i : Call) → f .ask m i ≡ askedFor m i
-  pub settles : (m : List ℕ) (i : Call) → f .settle m i ≡ settled m i
+  pub asks : (m : List ℕ) (i : Call) → f .ask m i ≡ askedFor (holding m) i
+  pub settles : (m : List ℕ) (i : Call) → f .settle m i ≡ settled (holding m) i
 
 -- PLAY. What a call adds to the history, and the image that calls leave
 abbrev pub tapBy : AnyCard → List ℕ → Call → Tap
@@ -105,7 +105,7 @@ pub record Rightful (sh : Sheet) (h : History) (i : Call) (x r : List ℕ) : Typ
   pub pin2 : holds PIN2 (sentIn (i .request)) (codes sh h .pin2) ≡ true
   pub cvc : sh .flags .usecvc ≡ 1 → holds CVC (sentIn (i .request)) (sh .fixed .cvc) ≡ true
   pub questions :
-      questionsRoom ≤ length (i .page)
+      questionsRoom ≤ length (i .buffers .page)
       → x ≡ asked (hashQuestions (wallets h) (sh .fixed .curve) (count (sentIn (i .request))) (val TransactionHash (sentIn (i .request))))
   pub size : length (i .answers) ≡ count (sentIn (i .request)) * signatureSize
   pub answers : val Signature (toldIn r) ≡ i .answers

@@ -40,22 +40,22 @@ outside x =
       ask =
           λ m i.
           cond (isCard m)
-          (cond (leb questionsRoom (length (i .page)))
+          (cond (leb questionsRoom (length (i .buffers .page)))
           (cond (eqb (length (i .draw)) drawSize)
-          (posed (wordOf (x .verdict (decode m) (i .request))) (asked (x .asks (decode m) (i .request) (i .draw))) (i .page))
-          (posedBy (outcome 3 0 0) (i .page)))
-          (posedBy (outcome 2 0 0) (i .page)))
-          (posedBy (outcome 1 0 0) (i .page));
+          (posed (wordOf (x .verdict (decode m) (i .request))) (asked (x .asks (decode m) (i .request) (i .draw))) (i .buffers .page))
+          (posedBy (outcome 3 0 0) (i .buffers .page)))
+          (posedBy (outcome 2 0 0) (i .buffers .page)))
+          (posedBy (outcome 1 0 0) (i .buffers .page));
       settle =
           λ m i.
           let s : Said = x .says (decode m) (i .request) (i .draw) (i .answers) in
           cond (isCard m)
-          (cond (roomy (length (i .out)) (length (i .next)))
+          (cond (roomy (length (i .buffers .out)) (length (i .buffers .next)))
           (cond (eqb (length (i .draw)) drawSize)
-          (lent s (x .leaves (decode m) (i .request) s) (i .out) (i .next))
-          (untouched 3 (i .out) (i .next)))
-          (untouched 2 (i .out) (i .next)))
-          (untouched 1 (i .out) (i .next));
+          (lent s (x .leaves (decode m) (i .request) s) (i .buffers .out) (i .buffers .next))
+          (untouched 3 (i .buffers .out) (i .buffers .next)))
+          (untouched 2 (i .buffers .out) (i .buffers .next)))
+          (untouched 1 (i .buffers .out) (i .buffers .next));
     }
 
 -- a card with these rows

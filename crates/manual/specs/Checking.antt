@@ -55,12 +55,13 @@ checkQuestions f v d =
 -- with tag 14 also counter after rising, key salt unless tag 14 is empty, card signature
 abbrev pub keyFields : Face → View → List ℕ → List ℕ → List Tagged
 keyFields f v d a =
-    fld CheckWalletCounter (be4 (f .front .counters .checks)) ∷ cond (keyAlone v) (fld CardSignature (signature2 a) ∷ []) (fld PublicKeySalt (keySalt d) ∷ fld CardSignature (signature2 a) ∷ [])
+    fld CheckWalletCounter (be4 (f .front .counters .checks))
+    ∷ cond (keyAlone v) (fld CardSignature (signature2 a) ∷ []) (fld PublicKeySalt (keySalt d) ∷ fld CardSignature (signature2 a) ∷ [])
 
 abbrev pub checkedFields : Face → View → List ℕ → List ℕ → List Tagged
 checkedFields f v d a = fld Salt (salt d) ∷ fld Signature (signature1 a) ∷ cond (keyAsked v) (keyFields f v d a) []
 
-unfoldable pub checkWallet : Row
+abbrev pub checkWallet : Row
 checkWallet =
     record {
       needs = record { cid = true; asleep = false; empty = false; loaded = true; purged = false; cvc = false };
@@ -76,7 +77,7 @@ checkWallet =
     }
 
 -- F3 VERIFY_CARD: kind 4 on Challenge, Salt
-unfoldable pub verifyCard : Row
+abbrev pub verifyCard : Row
 verifyCard =
     record {
       needs = record { cid = true; asleep = false; empty = true; loaded = true; purged = true; cvc = false };
@@ -92,7 +93,7 @@ verifyCard =
     }
 
 -- F4 VALIDATE_CARD: counter below 65,535; it rises; kind 4 on its two bytes
-unfoldable pub validateCard : Row
+abbrev pub validateCard : Row
 validateCard =
     record {
       needs = record { cid = true; asleep = false; empty = true; loaded = true; purged = false; cvc = false };

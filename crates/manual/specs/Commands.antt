@@ -1,6 +1,7 @@
 -- One row a command: 01, "The commands". Assumes nothing.
 use Rattle.manual.specs.declared.Command.{Command}
-use Rattle.manual.specs.declared.Command.the-variants.{ReadCard, CreateWallet, CheckWallet, SetPin, Sign, VerifyCard, ValidateCard, PurgeWallet, ReadUserData, WriteUserData, WriteIssuerData, ReadIssuerData}
+use Rattle.manual.specs.declared.Command.the-variants.{ReadCard, CreateWallet, CheckWallet, SetPin, Sign, VerifyCard}
+use Rattle.manual.specs.declared.Command.the-variants.{ValidateCard, PurgeWallet, ReadUserData, WriteUserData, WriteIssuerData, ReadIssuerData}
 use Rattle.manual.specs.Row.{Row}
 use Rattle.manual.specs.Wallet.{readCard, createWallet, setPin, sign, purgeWallet}
 use Rattle.manual.specs.Checking.{checkWallet, verifyCard, validateCard}

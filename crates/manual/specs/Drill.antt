@@ -102,6 +102,7 @@ pub drill :
     × (five 5 4294967290 0 .word ≡ 0x9000) × (five 5 4294967290 0 .face .front .wallet .signed ≡ 4294967295)
     -- (12) user counter 4,294,967,295 after a SIGN: 0
     × (five 5 0 4294967295 .face .front .counters .user ≡ 0)
-unfolding restFrom runN stepAt fieldAt wellFormed viewOf sentIn judgedBy has val holds part alike written each joined tlv headOf put fit room blockOf lcOf insOf plain allowed said answered done shaped hashQuestions sign writeIssuerData
+unfolding restFrom runN stepAt fieldAt wellFormed viewOf sentIn judgedBy has val holds part alike written each joined tlv headOf put fit room blockOf lcOf
+    insOf plain allowed said answered done shaped hashQuestions
 drill =
     (refl, refl, refl, refl, (λ m f. refl), (λ m f. refl), (λ m f. refl), refl, refl, refl, refl, refl, refl, refl, refl, refl, refl, refl)

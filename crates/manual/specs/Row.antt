@@ -123,9 +123,9 @@ headRules q =
     ∷ rule 3 (listed (insOf (getD q 1 0))) swInsNotSupported
     ∷ []
 
--- checks 4 and 5: its parameters, and whether its payload is well formed
-abbrev pub formRules : Bool → List ℕ → List Rule
-formRules formed q =
+-- checks 4 and 5: its parameters, and whether its payload is well formed. For every row and face they are the same
+abbrev pub formRules : Row → Face → Bool → View → List ℕ → List Rule
+formRules r f formed v q =
     rule 4 (plain (getD q 3 0)) swNeedEncryption
     ∷ rule 4 (eqb (getD q 2 0) 0 && eqb (getD q 3 0) 0) swInvalidParams
     ∷ rule 5 formed swInvalidParams
@@ -154,7 +154,7 @@ ownRules r m f v =
 
 -- of a request q; v is the view of its payload
 abbrev pub rules : Row → Matched → Face → Bool → View → List ℕ → List Rule
-rules r m f formed v q = headRules q ++ (formRules formed q ++ (entryRules r m f v ++ ownRules r m f v))
+rules r m f formed v q = headRules q ++ (formRules r f formed v q ++ (entryRules r m f v ++ ownRules r m f v))
 
 abbrev pub passed : List ℕ → Verdict
 passed q = Pass (command q)

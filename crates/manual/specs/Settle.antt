@@ -23,21 +23,32 @@ use Rattle.manual.specs.Request.{command, payload}
 use Rattle.manual.specs.Row.{Question, asked, shaped, Row, gateOf, rules, passed}
 use Rattle.manual.specs.Commands.{row}
 
--- A CALL with all that is lent to it: ask reads neither the answers nor `out` and `next`, settle not the page for questions
-pub record Call : Type 0 where
-  pub request : List ℕ
-  pub draw : List ℕ
-  pub answers : List ℕ
+-- WHAT A CALL FINDS: the card's image
+pub record State : Type 0 where
+  pub image : List ℕ
+
+abbrev pub holding : List ℕ → State
+holding m = record { image = m }
+
+-- what it writes in: ask in the page for questions, settle in the other two
+pub record Buffers : Type 0 where
   pub page : List ℕ
   pub out : List ℕ
   pub next : List ℕ
 
+-- A CALL: what is brought to it, of which ask does not read the answers, and the buffers that are lent to it
+pub record Call : Type 0 where
+  pub request : List ℕ
+  pub draw : List ℕ
+  pub answers : List ℕ
+  pub buffers : Buffers
+
 -- of ask, and of settle
 abbrev pub askCall : List ℕ → List ℕ → List ℕ → Call
-askCall q d page = record { request = q; draw = d; answers = []; page = page; out = []; next = [] }
+askCall q d page = record { request = q; draw = d; answers = []; buffers = record { page = page; out = []; next = [] } }
 
 abbrev pub settleCall : List ℕ → List ℕ → List ℕ → List ℕ → List ℕ → Call
-settleCall q d a out nxt = record { request = q; draw = d; answers = a; page = []; out = out; next = nxt }
+settleCall q d a out nxt = record { request = q; draw = d; answers = a; buffers = record { page = []; out = out; next = nxt } }
 
 -- how the codes of a payload compare with those of the card
 abbrev pub matched : Codes → View → Matched
@@ -154,16 +165,16 @@ settledOf c q d a out nxt = lent (saidTo c q d a) (cardAfter (saidTo c q d a) (c
 unfoldable pub roomy : ℕ → ℕ → Bool
 roomy out nxt = leb responseRoom out && leb imageRoom nxt
 
--- THE MEANING OF SETTLE, of the card's image m
-unfoldable pub settled : List ℕ → Call → Settled
-settled m i =
-    cond (isCard m)
-    (cond (roomy (length (i .out)) (length (i .next)))
+-- THE MEANING OF SETTLE
+unfoldable pub settled : State → Call → Settled
+settled s i =
+    cond (isCard (s .image))
+    (cond (roomy (length (i .buffers .out)) (length (i .buffers .next)))
     (cond (eqb (length (i .draw)) drawSize)
-    (settledOf (decode m) (i .request) (i .draw) (i .answers) (i .out) (i .next))
-    (untouched 3 (i .out) (i .next)))
-    (untouched 2 (i .out) (i .next)))
-    (untouched 1 (i .out) (i .next))
+    (settledOf (decode (s .image)) (i .request) (i .draw) (i .answers) (i .buffers .out) (i .buffers .next))
+    (untouched 3 (i .buffers .out) (i .buffers .next)))
+    (untouched 2 (i .buffers .out) (i .buffers .next)))
+    (untouched 1 (i .buffers .out) (i .buffers .next))
 
 -- ASK: what is returned, and what the buffer for questions then holds
 pub record Posed : Type 0 where
@@ -188,12 +199,12 @@ abbrev pub askedFrom : Card → List ℕ → List ℕ → List ℕ → Posed
 askedFrom c q d out = askedOf (matched (c .codes) (sentIn q)) (c .face) q d out
 
 -- THE MEANING OF ASK
-unfoldable pub askedFor : List ℕ → Call → Posed
-askedFor m i =
-    cond (isCard m)
-    (cond (leb questionsRoom (length (i .page)))
+unfoldable pub askedFor : State → Call → Posed
+askedFor s i =
+    cond (isCard (s .image))
+    (cond (leb questionsRoom (length (i .buffers .page)))
     (cond (eqb (length (i .draw)) drawSize)
-    (askedFrom (decode m) (i .request) (i .draw) (i .page))
-    (posedBy (outcome 3 0 0) (i .page)))
-    (posedBy (outcome 2 0 0) (i .page)))
-    (posedBy (outcome 1 0 0) (i .page))
+    (askedFrom (decode (s .image)) (i .request) (i .draw) (i .buffers .page))
+    (posedBy (outcome 3 0 0) (i .buffers .page)))
+    (posedBy (outcome 2 0 0) (i .buffers .page)))
+    (posedBy (outcome 1 0 0) (i .buffers .page))

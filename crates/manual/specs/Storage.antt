@@ -19,7 +19,7 @@ abbrev pub heldField : ℕ → List ℕ → List Tagged
 heldField t d = cond (eqb (length d) 0) [] (fld t d ∷ [])
 
 -- E1 READ_USER_DATA: 2A and 2B, each only if not empty, then 2C, 2D
-unfoldable pub readUserData : Row
+abbrev pub readUserData : Row
 readUserData =
     record {
       needs = record { cid = true; asleep = false; empty = true; loaded = true; purged = true; cvc = false };
@@ -30,7 +30,9 @@ readUserData =
       confirmed = λ a. true;
       next = λ f v a. f;
       recode = stays;
-      fieldsOut = λ f v d a. heldField UserData (blockOf (f .held .user)) ++ (heldField UserProtectedData (blockOf (f .held .protected)) ++ (fld UserCounter (be4 (f .front .counters .user)) ∷ fld UserProtectedCounter (be4 (f .front .counters .protected)) ∷ []));
+      fieldsOut = λ f v d a. heldField UserData (blockOf (f .held .user))
+          ++ (heldField UserProtectedData (blockOf (f .held .protected))
+          ++ (fld UserCounter (be4 (f .front .counters .user)) ∷ fld UserProtectedCounter (be4 (f .front .counters .protected)) ∷ []));
       more = λ m. 0;
     }
 
@@ -61,12 +63,19 @@ abbrev pub storedNumber : ℕ → View → ℕ → ℕ
 storedNumber t v n = cond (has t v) (num32 (val t v) 0) n
 
 abbrev pub storedCounters : View → Counters → Counters
-storedCounters v x = record { checks = x .checks; validations = x .validations; user = storedNumber UserCounter v (x .user); protected = storedNumber UserProtectedCounter v (x .protected) }
+storedCounters v x = record {
+  checks = x .checks;
+  validations = x .validations;
+  user = storedNumber UserCounter v (x .user);
+  protected = storedNumber UserProtectedCounter v (x .protected);
+}
 
 abbrev pub storedFace : Face → View → Face
-storedFace f v = withCounters (storedCounters v (f .front .counters)) (withProtected (storedBlock UserProtectedData v (f .held .protected)) (withUser (storedBlock UserData v (f .held .user)) f))
+storedFace f v =
+    withCounters (storedCounters v (f .front .counters))
+    (withProtected (storedBlock UserProtectedData v (f .held .protected)) (withUser (storedBlock UserData v (f .held .user)) f))
 
-unfoldable pub writeUserData : Row
+abbrev pub writeUserData : Row
 writeUserData =
     record {
       needs = record { cid = true; asleep = false; empty = true; loaded = true; purged = false; cvc = false };
@@ -97,7 +106,9 @@ counterBytes f v = cond (guarded f) (val IssuerDataCounter v) []
 
 -- 32 (1 to 512), 33 (64), with replay protection 35 (4)
 abbrev pub issuerFields : Face → View → Bool
-issuerFields f v = modeOk v && (isData (val IssuerData v) && (eqb (length (val IssuerDataSignature v)) signatureSize && (not (guarded f) || isNumber (val IssuerDataCounter v))))
+issuerFields f v =
+    modeOk v && (isData (val IssuerData v)
+    && (eqb (length (val IssuerDataSignature v)) signatureSize && (not (guarded f) || isNumber (val IssuerDataCounter v))))
 
 -- kind 5 on signature, CID, data, and the counter if protected
 abbrev pub issuerMessage : Face → View → List (List ℕ)
@@ -109,7 +120,7 @@ keptCounter f v = cond (guarded f) (sentCounter v) (f .held .issuer .counter)
 abbrev pub issuerFace : Face → View → Face
 issuerFace f v = withIssuer (heldIssuer (val IssuerData v) (val IssuerDataSignature v) (keptCounter f v)) f
 
-unfoldable pub writeIssuerData : Row
+abbrev pub writeIssuerData : Row
 writeIssuerData =
     record {
       needs = record { cid = true; asleep = false; empty = true; loaded = true; purged = false; cvc = false };
@@ -135,7 +146,7 @@ noteFields f =
 abbrev pub counterField : Face → List Tagged
 counterField f = cond (guarded f) (fld IssuerDataCounter (be4 (f .held .issuer .counter)) ∷ []) []
 
-unfoldable pub readIssuerData : Row
+abbrev pub readIssuerData : Row
 readIssuerData =
     record {
       needs = record { cid = true; asleep = true; empty = true; loaded = true; purged = true; cvc = false };

@@ -11,7 +11,8 @@ use Rattle.card.specs.declared.Codes.{Codes}
 use Rattle.card.specs.Layout.{pinSize, mostHashes, top16, top32}
 use Rattle.card.specs.Values.{u16, created, spent, purged, risen, heldKey, heldLast, keyOf, lastOf, withWallet, withKey, withCounters, withLast}
 use Rattle.manual.specs.Words.{hashSize}
-use Rattle.manual.specs.Tags.{Status, CurveID, NewPIN1, NewPIN2, IsActivated, TransactionHash, TransactionHashSize, WalletPublicKey, Signature, Remaining, SignedHashes}
+use Rattle.manual.specs.Tags.{Status, CurveID, NewPIN1, NewPIN2, IsActivated}
+use Rattle.manual.specs.Tags.{TransactionHash, TransactionHashSize, WalletPublicKey, Signature, Remaining, SignedHashes}
 use Rattle.manual.specs.declared.Signing.{Signing}
 use Rattle.manual.specs.declared.Signing.the-variants.{New, Again}
 use Rattle.manual.specs.Row.{Question, question, Row, stays}
@@ -39,7 +40,7 @@ activeFields f = fld CurveID (curveName (f .front .fixed .curve)) ∷ fld Signed
 abbrev pub readFields : Face → List Tagged
 readFields f = statusField f ∷ cond (isActive f) (activeFields f) (fld IsActivated (be1 0) ∷ [])
 
-unfoldable pub readCard : Row
+abbrev pub readCard : Row
 readCard =
     record {
       needs = record { cid = false; asleep = true; empty = true; loaded = true; purged = true; cvc = false };
@@ -58,7 +59,7 @@ readCard =
 abbrev pub createdFace : Face → List ℕ → Face
 createdFace f a = withKey (heldKey a) (withWallet (created (f .front .fixed .max) (f .front .wallet)) f)
 
-unfoldable pub createWallet : Row
+abbrev pub createWallet : Row
 createWallet =
     record {
       needs = record { cid = true; asleep = false; empty = true; loaded = false; purged = false; cvc = true };
@@ -80,7 +81,7 @@ pinFields v = eqb (length (val NewPIN1 v)) pinSize && eqb (length (val NewPIN2 v
 abbrev pub newCodes : View → Codes
 newCodes v = record { pin1 = pad pinSize (val NewPIN1 v); pin2 = pad pinSize (val NewPIN2 v) }
 
-unfoldable pub setPin : Row
+abbrev pub setPin : Row
 setPin =
     record {
       needs = record { cid = true; asleep = false; empty = true; loaded = true; purged = false; cvc = true };
@@ -126,7 +127,7 @@ signedFace f n a = withLast (heldLast a) (withCounters (risen (f .front .counter
 abbrev pub signConditions : Face → View → Bool
 signConditions f v = cond (isNew v) (ltb 0 (f .front .wallet .remaining) && leb (f .front .wallet .signed + count v) top32) (ltb 0 (f .last .count))
 
-unfoldable pub sign : Row
+abbrev pub sign : Row
 sign =
     record {
       needs = record { cid = true; asleep = false; empty = false; loaded = true; purged = false; cvc = true };
@@ -137,7 +138,8 @@ sign =
       confirmed = λ a. true;
       next = λ f v a. cond (isNew v) (signedFace f (count v) a) f;
       recode = stays;
-      fieldsOut = λ f v d a. fld Signature (lastOf (f .last)) ∷ fld Remaining (be4 (f .front .wallet .remaining)) ∷ fld SignedHashes (be4 (f .front .wallet .signed)) ∷ [];
+      fieldsOut = λ f v d a. fld Signature (lastOf (f .last)) ∷ fld Remaining (be4 (f .front .wallet .remaining))
+          ∷ fld SignedHashes (be4 (f .front .wallet .signed)) ∷ [];
       more = λ m. 0;
     }
 
@@ -145,7 +147,7 @@ sign =
 abbrev pub purgedFace : Face → Face
 purgedFace f = withKey (heldKey []) (withWallet (purged (f .front .flags .reusable) (f .front .wallet)) f)
 
-unfoldable pub purgeWallet : Row
+abbrev pub purgeWallet : Row
 purgeWallet =
     record {
       needs = record { cid = true; asleep = false; empty = false; loaded = true; purged = false; cvc = false };

@@ -1,5 +1,5 @@
--- THE STATUS WORDS, by the manual's names, and THE LIMITS of calls and requests, 01 "Two calls" and "Requests and fields": the one place that has them in numbers.
--- `manual` has constants of the same names. Assumes nothing.
+-- THE STATUS WORDS, by the manual's names, and THE LIMITS of calls and requests, 01 "Two calls" and "Requests and fields":
+-- the one place that has them in numbers. `manual` has constants of the same names. Assumes nothing.
 use Prim.Native.Nat.{ℕ}
 
 abbrev pub swProcessCompleted : ℕ

@@ -100,7 +100,8 @@ module _ (k : Command) (c : Card) (v : View) (d a out nxt : List ℕ) where
   carries {x} {w} {l} {r} {out′} {nxt′} er ex ew s ei =
       (λ i. settledBy (er i) (s .bytes i) (ei i))
       ∙ (λ i. settledBy (outcome 0 w (s .size i)) (over (response w x) out) (encode (carriedCard k c v a) ++ drop imageSize nxt))
-      ∙ (λ i. settledBy (outcome 0 (ew i) (length (response (ew i) (ex i)))) (over (response (ew i) (ex i)) out) (encode (carriedCard k c v a) ++ drop imageSize nxt))
+      ∙ (λ i. settledBy (outcome 0 (ew i) (length (response (ew i) (ex i)))) (over (response (ew i) (ex i)) out)
+      (encode (carriedCard k c v a) ++ drop imageSize nxt))
 
 pub rooms : (a b : ℕ) → roomy a b ≡ true → (responseRoom ≤ a) × (imageRoom ≤ b)
 unfolding roomy
@@ -110,7 +111,8 @@ rooms a b e = let z = both-true (leb responseRoom a) (leb imageRoom b) e in (leb
 pub stopped : (c : Card) (q : List ℕ) {h : Verdict} {n a : ℕ} → h ≡ headOf q → h ≡ Stop n a → judged (matched (c .codes) (sentIn q)) (c .face) q ≡ Stop n a
 stopped c q eh d = at-head (wellFormed (payload q)) c (sentIn q) q eh d
 
-module _ {p l : List ℕ} {w : Bool} {h : Verdict} {k : Command} (q : List ℕ) (eh : h ≡ headOf q) (dh : h ≡ Pass k) (ep : p ≡ bodyIn q) (f : Filled p (replicate places 0) w l) where
+module _ {p l : List ℕ} {w : Bool} {h : Verdict} {k : Command} (q : List ℕ) (eh : h ≡ headOf q) (dh : h ≡ Pass k) (ep : p ≡ bodyIn q)
+    (f : Filled p (replicate places 0) w l) where
   has-payload : p ≡ payload q
   has-payload = ep ∙ body-is q (heads q eh dh)
 
@@ -176,8 +178,10 @@ module _ (c : Card) (q d a out nxt : List ℕ) where
   by-ways k e true false = refl
   by-ways k e false t = refl
 
-  pub settled-pass : (k : Command) {j : Command} → k ≡ command q → judged codes (c .face) q ≡ Pass j → settledOf c q d a out nxt ≡ answeredIn k c (sentIn q) d a out nxt
+  pub settled-pass : (k : Command) {j : Command} → k ≡ command q → judged codes (c .face) q ≡ Pass j
+      → settledOf c q d a out nxt ≡ answeredIn k c (sentIn q) d a out nxt
   unfolding settledOf said answered answeredIn
   settled-pass k {j} ek e =
       let ej = command-of (wellFormed (payload q)) (sentIn q) codes (c .face) q e in
-      rw e (by-ways j ej (shaped (row j .questions (c .face) (sentIn q) d) a) (row j .confirmed a) ∙ ap (λ i. answeredIn i c (sentIn q) d a out nxt) (ej ∙ sym ek))
+      rw e (by-ways j ej (shaped (row j .questions (c .face) (sentIn q) d) a) (row j .confirmed a)
+      ∙ ap (λ i. answeredIn i c (sentIn q) d a out nxt) (ej ∙ sym ek))

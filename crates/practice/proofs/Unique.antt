@@ -6,7 +6,8 @@ use Rattle.manual.specs.declared.Outcome.{Outcome}
 use Rattle.manual.specs.Settle.{Settled, settledBy, Posed, posedBy}
 
 -- what settle returns, the response's buffer, the next image's
-pub one-settling : {r r′ : Outcome} {out out′ nxt nxt′ : List ℕ} {s : Settled} → settledBy r out nxt ≡ s → settledBy r′ out′ nxt′ ≡ s → (r ≡ r′) × (out ≡ out′) × (nxt ≡ nxt′)
+pub one-settling : {r r′ : Outcome} {out out′ nxt nxt′ : List ℕ} {s : Settled}
+    → settledBy r out nxt ≡ s → settledBy r′ out′ nxt′ ≡ s → (r ≡ r′) × (out ≡ out′) × (nxt ≡ nxt′)
 one-settling p q = let e = p ∙ sym q in (ap (λ z. z .result) e, ap (λ z. z .response) e, ap (λ z. z .next) e)
 
 -- what ask returns, and the buffer for questions

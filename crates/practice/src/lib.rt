@@ -16,7 +16,7 @@ ghost use Rattle.card.specs.Image.{decode};
 ghost use Rattle.personalise.specs.Personalise.{personalised};
 ghost use Rattle.manual.specs.Words.{questionsRoom, responseRoom, drawSize};
 ghost use Rattle.manual.specs.Commands.{row};
-ghost use Rattle.manual.specs.Settle.{wordOf, refused, responseOf, outcome, settledBy, lent, settledOf, roomy, settled, settleCall};
+ghost use Rattle.manual.specs.Settle.{holding, wordOf, refused, responseOf, outcome, settledBy, lent, settledOf, roomy, settled, settleCall};
 ghost use Rattle.manual.specs.Settle.{posedBy, askedFrom, askedFor, askCall};
 ghost use Rattle.practice.specs.Carried.{Says, doneIn, answeredIn};
 
@@ -97,7 +97,8 @@ fn respond(
     out: &mut [u8],
 ) -> u32
     requires { ⌜ responseRoom ≤ length (now out) ⌝ }
-    ensures { λ r. ⌜ Says (responseOf (row cmd) word (decode (now (img .entry)) .face) (viewBy (now (p .entry)) (now (places .entry))) (now (draw .entry)) (now (answers .entry)))
+    ensures { λ r. ⌜ Says (responseOf (row cmd) word (decode (now (img .entry)) .face) (viewBy (now (p .entry)) (now (places .entry))) (now (draw .entry))
+        (now (answers .entry)))
         (now (out .entry)) r (now (out .exit)) ⌝ }
 {
     let at = tells::tell(cmd, img, p, places, draw, answers, out);
@@ -189,7 +190,7 @@ pub fn settle(
     next: &mut [u8],
 ) -> Outcome
     ensures { λ r. ⌜ settledBy r (now (response .exit)) (now (next .exit))
-        ≡ settled (now (image .entry))
+        ≡ settled (holding (now (image .entry)))
         (settleCall (now (request .entry)) (now (draw .entry)) (now (answers .entry)) (now (response .entry)) (now (next .entry))) ⌝ }
 {
     let Check::Fine = image::is_card(image) else {
@@ -227,7 +228,7 @@ fn ask_card(img: &[u8], request: &[u8], draw: &[u8], questions: &mut [u8]) -> Ou
 // Takes an image, a request and a draw; writes the questions for the crypto provider.
 pub fn ask(image: &[u8], request: &[u8], draw: &[u8], questions: &mut [u8]) -> Outcome
     ensures { λ r. ⌜ posedBy r (now (questions .exit))
-        ≡ askedFor (now (image .entry)) (askCall (now (request .entry)) (now (draw .entry)) (now (questions .entry))) ⌝ }
+        ≡ askedFor (holding (now (image .entry))) (askCall (now (request .entry)) (now (draw .entry)) (now (questions .entry))) ⌝ }
 {
     let Check::Fine = image::is_card(image) else {
         return only(Outcome::NO_CARD);
@@ -250,7 +251,7 @@ pub extern "C" fn practice_ask(
     questions: &mut [u8],
 ) -> Outcome
     ensures { λ r. ⌜ posedBy r (now (questions .exit))
-        ≡ askedFor (now (image .entry)) (askCall (now (request .entry)) (now (draw .entry)) (now (questions .entry))) ⌝ }
+        ≡ askedFor (holding (now (image .entry))) (askCall (now (request .entry)) (now (draw .entry)) (now (questions .entry))) ⌝ }
 {
     ask(image, request, draw, questions)
 }
@@ -265,7 +266,7 @@ pub extern "C" fn practice_settle(
     next: &mut [u8],
 ) -> Outcome
     ensures { λ r. ⌜ settledBy r (now (response .exit)) (now (next .exit))
-        ≡ settled (now (image .entry))
+        ≡ settled (holding (now (image .entry)))
         (settleCall (now (request .entry)) (now (draw .entry)) (now (answers .entry)) (now (response .entry)) (now (next .entry))) ⌝ }
 {
     settle(image, request, draw, answers, response, next)
@@ -273,7 +274,8 @@ pub extern "C" fn practice_settle(
 
 #[no_mangle]
 pub extern "C" fn practice_personalise(sheet: &[u8], image: &mut [u8]) -> u32
-    ensures { λ r. ⌜ (r ≡ personalised (now (sheet .entry)) (now (image .entry)) .answer) × (now (image .exit) ≡ personalised (now (sheet .entry)) (now (image .entry)) .image) ⌝ }
+    ensures { λ r. ⌜ (r ≡ personalised (now (sheet .entry)) (now (image .entry)) .answer)
+        × (now (image .exit) ≡ personalised (now (sheet .entry)) (now (image .entry)) .image) ⌝ }
 {
     personalise::personalise(sheet, image)
 }

@@ -44,10 +44,10 @@ draw-is-32 l e =
 abbrev Fine : Settled → Type 0
 Fine x = (eqb (x .result .number) 0 || eqb (x .result .number) 4) ≡ true
 
-settled-fine : (m : List ℕ) (i : Call) → Fine (settledOf (decode m) (i .request) (i .draw) (i .answers) (i .out) (i .next))
+settled-fine : (m : List ℕ) (i : Call) → Fine (settledOf (decode m) (i .request) (i .draw) (i .answers) (i .buffers .out) (i .buffers .next))
 unfolding settledOf lent done
 settled-fine m i =
-    by-outcome (λ s _. Fine (lent s (cardAfter s (decode m .codes) (i .request)) (i .out) (i .next)))
+    by-outcome (λ s _. Fine (lent s (cardAfter s (decode m .codes) (i .request)) (i .buffers .out) (i .buffers .next)))
     (matched (decode m .codes) (sentIn (i .request))) (decode m .face) (i .request) (i .draw) (i .answers)
     (λ w _ _. refl)
     (λ _ _. refl)

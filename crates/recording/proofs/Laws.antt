@@ -18,7 +18,7 @@ use Rattle.card.specs.declared.Card.{Card}
 use Rattle.card.specs.Layout.{imageSize, imageRoom}
 use Rattle.card.specs.Valid.{isCard}
 use Rattle.manual.specs.Words.{drawSize}
-use Rattle.manual.specs.Settle.{Call, Settled, Said, settled, settledOf, lent, over, untouched, roomy}
+use Rattle.manual.specs.Settle.{holding, Call, Settled, Said, settled, settledOf, lent, over, untouched, roomy}
 use Rattle.story.specs.Buffers.{response}
 use Rattle.tapline.specs.Line.{requestIn, drawIn, answersIn, longest, isTapLine}
 use Rattle.printing.specs.Printing.{toldAs, tapText}
@@ -87,14 +87,14 @@ read-lent s c out nxt = by-cases Read (eqb (s .number) 0) (λ e. all) (λ e. rea
     all : part (over (s .response) out) 0 (length (s .response)) ≡ take (length (s .response)) (over (s .response) out)
     all = part-plain (over (s .response) out) 0 (length (s .response)) (rw (length-append (s .response) (drop (length (s .response)) out)) (omega arith))
 
-pub said-is : (m : List ℕ) (i : Call) → Read (settled m i)
+pub said-is : (m : List ℕ) (i : Call) → Read (settled (holding m) i)
 unfolding settled settledOf
 said-is m i =
     by-cases Read (isCard m)
-    (λ _. by-cases Read (roomy (length (i .out)) (length (i .next)))
-    (λ _. by-cases Read (eqb (length (i .draw)) drawSize) (λ _. read-lent _ _ (i .out) (i .next)) (λ _. read-none 3 (i .out) (i .next) refl))
-    (λ _. read-none 2 (i .out) (i .next) refl))
-    (λ _. read-none 1 (i .out) (i .next) refl)
+    (λ _. by-cases Read (roomy (length (i .buffers .out)) (length (i .buffers .next)))
+    (λ _. by-cases Read (eqb (length (i .draw)) drawSize) (λ _. read-lent _ _ (i .buffers .out) (i .buffers .next)) (λ _. read-none 3 (i .buffers .out) (i .buffers .next) refl))
+    (λ _. read-none 2 (i .buffers .out) (i .buffers .next) refl))
+    (λ _. read-none 1 (i .buffers .out) (i .buffers .next) refl)
 
 -- THE LINE OF A TAP is settled by its number, what was expected, and what settle said
 pub same-line :

@@ -10,7 +10,7 @@ use Rattle.card.specs.Image.{encode, decode}
 use Rattle.sheet.specs.Sheet.{firstBad, sheetIn}
 use Rattle.personalise.specs.Personalise.{sheetCard}
 use Rattle.manual.specs.Words.{responseRoom}
-use Rattle.manual.specs.Settle.{Call, Settled, settleCall, settled}
+use Rattle.manual.specs.Settle.{holding, Call, Settled, settleCall, settled}
 use Rattle.story.specs.Sums.{tap}
 use Rattle.story.specs.Buffers.{response, image}
 use Rattle.tapline.specs.Line.{Recorded}
@@ -25,7 +25,7 @@ callOf t = settleCall (t .request) (t .draw) (t .answers) (replicate responseRoo
 
 -- WHAT SETTLE GIVES for it, on the card with image m
 abbrev pub settledFor : List ℕ → Recorded → Settled
-settledFor m t = settled m (callOf t)
+settledFor m t = settled (holding m) (callOf t)
 
 abbrev pub told : Settled → List ℕ
 told x = toldAs (x .result .number) (response x)

@@ -12,7 +12,7 @@ use Rattle.personalise.specs.Personalise.{sheetCard}
 use Rattle.text.specs.Text.{unhex}
 use Rattle.manual.specs.declared.Outcome.{Outcome}
 use Rattle.manual.specs.Words.{responseRoom}
-use Rattle.manual.specs.Settle.{Settled, settleCall, settled, over}
+use Rattle.manual.specs.Settle.{holding, Settled, settleCall, settled, over}
 use Rattle.recording.specs.declared.Play.{Play}
 use Rattle.recording.specs.declared.Turn.{Turn}
 use Rattle.tapline.specs.Line.{Recorded, drawIn, answersIn, isTapLine, recorded}
@@ -48,7 +48,7 @@ nothing y m = record { play = y; image = m; text = [] }
 
 -- what settle gives for a request and the line that it stands in; out is the buffer for the response
 abbrev pub settledIn : List ℕ → List ℕ → List ℕ → List ℕ → Settled
-settledIn m q l out = settled m (settleCall q (unhex (drawIn l)) (unhex (answersIn l)) out (replicate imageRoom 0))
+settledIn m q l out = settled (holding m) (settleCall q (unhex (drawIn l)) (unhex (answersIn l)) out (replicate imageRoom 0))
 
 -- the image after it
 abbrev pub renewed : ℕ → List ℕ → List ℕ → List ℕ

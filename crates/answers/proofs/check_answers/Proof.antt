@@ -12,13 +12,11 @@ mul-result : tie.Need-mul-result
 mul-result c = search needs
 
 returns : tie.Need-returns
-unfolding checkWallet
 returns c =
     let c1 = c .before in
     λ f d. rw (sym (c1 .has .ensures) ∙ c .if1 .taken) (exactly-shaped (more refl (more refl none)) _)
 
 returns-2 : tie.Need-returns-2
-unfolding checkWallet
 returns-2 c =
     let c1 = c .before in
     λ f d. rw (sym (c1 .has .ensures) ∙ c .if1 .left) (exactly-shaped (more refl none) _)

@@ -1,6 +1,5 @@
-use Rattle.manual.specs.Wallet.{readCard, createWallet, setPin, purgeWallet}
-use Rattle.manual.specs.Checking.{verifyCard, validateCard}
-use Rattle.manual.specs.Storage.{readUserData, writeUserData, writeIssuerData, readIssuerData}
+use denote.Ref.{now}
+use Rattle.card.specs.Image.{decode}
 use borrow.Author.Needs.{needs}
 use Rattle.answers.proofs.fits.Statement.{statement}
 use Rattle.answers.proofs.fits.Tie as tie
@@ -81,13 +80,9 @@ no-answer-requires-6 : tie.Need-no-answer-requires-6
 no-answer-requires-6 c κs = tt
 
 returns : tie.Need-returns
-unfolding readCard
-returns c =
-    let c1 = c .before in
-    λ d. rw (c1 .enum-told .given .1) (c .no-answer .ensures)
+returns c = λ d. rw (c .before .enum-told .given .1) (c .no-answer .ensures)
 
 returns-2 : tie.Need-returns-2
-unfolding createWallet
 returns-2 c =
     let c1 = c .before in
     let c2 = c1 .before in
@@ -95,61 +90,37 @@ returns-2 c =
 
 returns-3 : tie.Need-returns-3
 returns-3 c =
-    let c1 = c .before in
-    λ d. rw (c1 .enum-told3 .given .1) (c .check-answers .ensures _ d)
+    let x = c .before .before .before .before .before .before .args in
+    λ d. rw (c .before .enum-told3 .given .1) (c .check-answers .ensures (decode (now (x .img)) .face) d)
 
 returns-4 : tie.Need-returns-4
-unfolding setPin
-returns-4 c =
-    let c1 = c .before in
-    λ d. rw (c1 .enum-told4 .given .1) (c .no-answer2 .ensures)
+returns-4 c = λ d. rw (c .before .enum-told4 .given .1) (c .no-answer2 .ensures)
 
 returns-5 : tie.Need-returns-5
 returns-5 c =
-    let c1 = c .before in
-    λ d. rw (c1 .enum-told5 .given .1) (c .sign-answers .ensures _ d)
+    let x = c .before .before .before .before .before .before .args in
+    λ d. rw (c .before .enum-told5 .given .1) (c .sign-answers .ensures (decode (now (x .img)) .face) d)
 
 returns-6 : tie.Need-returns-6
-unfolding verifyCard
-returns-6 c =
-    let c1 = c .before in
-    λ d. rw (c1 .enum-told6 .given .1) (c .one-signature .ensures _ _ _)
+returns-6 c = λ d. rw (c .before .enum-told6 .given .1) (c .one-signature .ensures _ _ _)
 
 returns-7 : tie.Need-returns-7
-unfolding validateCard
-returns-7 c =
-    let c1 = c .before in
-    λ d. rw (c1 .enum-told7 .given .1) (c .one-signature2 .ensures _ _ _)
+returns-7 c = λ d. rw (c .before .enum-told7 .given .1) (c .one-signature2 .ensures _ _ _)
 
 returns-8 : tie.Need-returns-8
-unfolding purgeWallet
-returns-8 c =
-    let c1 = c .before in
-    λ d. rw (c1 .enum-told8 .given .1) (c .no-answer3 .ensures)
+returns-8 c = λ d. rw (c .before .enum-told8 .given .1) (c .no-answer3 .ensures)
 
 returns-9 : tie.Need-returns-9
-unfolding readUserData
-returns-9 c =
-    let c1 = c .before in
-    λ d. rw (c1 .enum-told9 .given .1) (c .no-answer4 .ensures)
+returns-9 c = λ d. rw (c .before .enum-told9 .given .1) (c .no-answer4 .ensures)
 
 returns-10 : tie.Need-returns-10
-unfolding writeUserData
-returns-10 c =
-    let c1 = c .before in
-    λ d. rw (c1 .enum-told10 .given .1) (c .no-answer5 .ensures)
+returns-10 c = λ d. rw (c .before .enum-told10 .given .1) (c .no-answer5 .ensures)
 
 returns-11 : tie.Need-returns-11
-unfolding writeIssuerData
-returns-11 c =
-    let c1 = c .before in
-    λ d. rw (c1 .enum-told11 .given .1) (c .yes-or-no .ensures _ _ _)
+returns-11 c = λ d. rw (c .before .enum-told11 .given .1) (c .yes-or-no .ensures _ _ _)
 
 returns-12 : tie.Need-returns-12
-unfolding readIssuerData
-returns-12 c =
-    let c1 = c .before in
-    λ d. rw (c1 .enum-told12 .given .1) (c .no-answer6 .ensures)
+returns-12 c = λ d. rw (c .before .enum-told12 .given .1) (c .no-answer6 .ensures)
 
 pub fits-spec : {M : Type 1} → statement M
 fits-spec =

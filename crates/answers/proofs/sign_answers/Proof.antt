@@ -21,7 +21,6 @@ no-answer-requires : tie.Need-no-answer-requires
 no-answer-requires c κs = tt
 
 returns : tie.Need-returns
-unfolding sign
 returns c =
     let c1 = c .before in
     let c2 = c1 .before .before in
@@ -31,7 +30,6 @@ both-requires : tie.Need-both-requires
 both-requires c κs = tt
 
 returns-2 : tie.Need-returns-2
-unfolding sign
 returns-2 c =
     let c1 = c .before .before in
     let c2 = c1 .before .before in

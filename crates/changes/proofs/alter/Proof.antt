@@ -66,14 +66,12 @@ enum-told-12 : tie.Need-enum-told-12
 enum-told-12 c = search needs
 
 returns : tie.Need-returns
-unfolding readCard
 returns c = rw (c .enum-told .given .1) (λ rest h. h)
 
 same-length : tie.Need-same-length
 same-length c = search needs
 
 returns-2 : tie.Need-returns-2
-unfolding createWallet
 returns-2 c =
     let c1 = c .before .before in
     let c2 = c1 .before .before in
@@ -83,7 +81,6 @@ same-length-2 : tie.Need-same-length-2
 same-length-2 c = search needs
 
 returns-3 : tie.Need-returns-3
-unfolding checkWallet
 returns-3 c =
     let c1 = c .before .before in
     let c2 = c1 .before .before in
@@ -93,7 +90,6 @@ same-length-3 : tie.Need-same-length-3
 same-length-3 c = search needs
 
 returns-4 : tie.Need-returns-4
-unfolding setPin
 returns-4 c =
     let c1 = c .before .before in
     let c2 = c1 .before .before in
@@ -103,21 +99,18 @@ same-length-4 : tie.Need-same-length-4
 same-length-4 c = search needs
 
 returns-5 : tie.Need-returns-5
-unfolding sign
 returns-5 c =
     let c1 = c .before .before in
     let c2 = c1 .before .before in
     rw (c2 .enum-told5 .given .1) (c1 .signed .ensures)
 
 returns-6 : tie.Need-returns-6
-unfolding verifyCard
 returns-6 c = rw (c .enum-told6 .given .1) (λ rest h. h)
 
 same-length-5 : tie.Need-same-length-5
 same-length-5 c = search needs
 
 returns-7 : tie.Need-returns-7
-unfolding validateCard
 returns-7 c =
     let c1 = c .before .before in
     let c2 = c1 .before .before in
@@ -127,21 +120,18 @@ same-length-6 : tie.Need-same-length-6
 same-length-6 c = search needs
 
 returns-8 : tie.Need-returns-8
-unfolding purgeWallet
 returns-8 c =
     let c1 = c .before .before in
     let c2 = c1 .before .before in
     rw (c2 .enum-told8 .given .1) (c1 .purged .ensures)
 
 returns-9 : tie.Need-returns-9
-unfolding readUserData
 returns-9 c = rw (c .enum-told9 .given .1) (λ rest h. h)
 
 same-length-7 : tie.Need-same-length-7
 same-length-7 c = search needs
 
 returns-10 : tie.Need-returns-10
-unfolding writeUserData
 returns-10 c =
     let c1 = c .before .before in
     let c2 = c1 .before .before in
@@ -151,14 +141,12 @@ same-length-8 : tie.Need-same-length-8
 same-length-8 c = search needs
 
 returns-11 : tie.Need-returns-11
-unfolding writeIssuerData
 returns-11 c =
     let c1 = c .before .before in
     let c2 = c1 .before .before in
     rw (c2 .enum-told11 .given .1) (c1 .noted .ensures)
 
 returns-12 : tie.Need-returns-12
-unfolding readIssuerData
 returns-12 c = rw (c .enum-told12 .given .1) (λ rest h. h)
 
 pub alter-spec : {M : Type 1} → statement M

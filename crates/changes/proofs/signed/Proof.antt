@@ -15,7 +15,6 @@ enum-told : tie.Need-enum-told
 enum-told c = search needs
 
 returns : tie.Need-returns
-unfolding sign
 returns c =
     let c1 = c .before .before in
     λ rest h. rw (asks-again _ (sym (c1 .signing .ensures) ∙ c .enum-told .given .1)) h
@@ -27,7 +26,6 @@ same-length : tie.Need-same-length
 same-length c = search needs
 
 returns-2 : tie.Need-returns-2
-unfolding sign
 returns-2 c =
     let c1 = c .before .before in
     let c2 = c1 .before .before .before in

@@ -60,51 +60,39 @@ enum-told-12 : tie.Need-enum-told-12
 enum-told-12 c = search needs
 
 returns : tie.Need-returns
-unfolding readCard
 returns c = rw (c .enum-told .given .1)
 
 returns-2 : tie.Need-returns-2
-unfolding createWallet
 returns-2 c = rw (c .before .enum-told2 .given .1) (c .may-create .ensures)
 
 returns-3 : tie.Need-returns-3
-unfolding checkWallet
 returns-3 c = rw (c .enum-told3 .given .1)
 
 returns-4 : tie.Need-returns-4
-unfolding setPin
 returns-4 c = rw (c .before .enum-told4 .given .1) (c .pin-conditions .ensures)
 
 returns-5 : tie.Need-returns-5
-unfolding sign
 returns-5 c = rw (c .before .enum-told5 .given .1) (c .sign-conditions .ensures)
 
 returns-6 : tie.Need-returns-6
-unfolding verifyCard
 returns-6 c = rw (c .enum-told6 .given .1)
 
 returns-7 : tie.Need-returns-7
-unfolding validateCard
 returns-7 c = rw (c .before .enum-told7 .given .1) (c .may-validate .ensures)
 
 returns-8 : tie.Need-returns-8
-unfolding purgeWallet
 returns-8 c = rw (c .before .enum-told8 .given .1) (c .may-purge .ensures)
 
 returns-9 : tie.Need-returns-9
-unfolding readUserData
 returns-9 c = rw (c .enum-told9 .given .1)
 
 returns-10 : tie.Need-returns-10
-unfolding writeUserData
 returns-10 c = rw (c .enum-told10 .given .1)
 
 returns-11 : tie.Need-returns-11
-unfolding writeIssuerData
 returns-11 c = rw (c .before .enum-told11 .given .1) (c .issuer-conditions .ensures)
 
 returns-12 : tie.Need-returns-12
-unfolding readIssuerData
 returns-12 c = rw (c .enum-told12 .given .1)
 
 pub conditions-ok-spec : {M : Type 1} → statement M

@@ -63,51 +63,39 @@ mode-ok-requires : tie.Need-mode-ok-requires
 mode-ok-requires c κs = tt
 
 returns : tie.Need-returns
-unfolding readCard
 returns c = rw (c .enum-told .given .1)
 
 returns-2 : tie.Need-returns-2
-unfolding createWallet
 returns-2 c = rw (c .enum-told2 .given .1)
 
 returns-3 : tie.Need-returns-3
-unfolding checkWallet
 returns-3 c = rw (c .before .enum-told3 .given .1) (c .check-fields .ensures)
 
 returns-4 : tie.Need-returns-4
-unfolding setPin
 returns-4 c = rw (c .before .enum-told4 .given .1) (c .pin-fields .ensures)
 
 returns-5 : tie.Need-returns-5
-unfolding sign
 returns-5 c = rw (c .before .enum-told5 .given .1) (c .sign-fields .ensures)
 
 returns-6 : tie.Need-returns-6
-unfolding verifyCard
 returns-6 c = rw (c .before .enum-told6 .given .1) (c .is-challenged .ensures)
 
 returns-7 : tie.Need-returns-7
-unfolding validateCard
 returns-7 c = rw (c .enum-told7 .given .1)
 
 returns-8 : tie.Need-returns-8
-unfolding purgeWallet
 returns-8 c = rw (c .enum-told8 .given .1)
 
 returns-9 : tie.Need-returns-9
-unfolding readUserData
 returns-9 c = rw (c .enum-told9 .given .1)
 
 returns-10 : tie.Need-returns-10
-unfolding writeUserData
 returns-10 c = rw (c .before .enum-told10 .given .1) (c .user-fields .ensures)
 
 returns-11 : tie.Need-returns-11
-unfolding writeIssuerData
 returns-11 c = rw (c .before .enum-told11 .given .1) (c .issuer-fields .ensures)
 
 returns-12 : tie.Need-returns-12
-unfolding readIssuerData
 returns-12 c = rw (c .before .enum-told12 .given .1) (c .mode-ok .ensures)
 
 pub fields-ok-spec : {M : Type 1} → statement M

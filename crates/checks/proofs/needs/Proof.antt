@@ -90,51 +90,39 @@ always-requires-2 : tie.Need-always-requires-2
 always-requires-2 c κs = tt
 
 returns : tie.Need-returns
-unfolding readCard
 returns c = rw (c .before .before .enum-told .given .1) (rw (c .before .always .ensures) at (c .without-cid .ensures))
 
 returns-2 : tie.Need-returns-2
-unfolding createWallet
 returns-2 c = rw (c .before .before .enum-told2 .given .1) (rw (c .before .when-empty .ensures) at (c .with-cvc .ensures))
 
 returns-3 : tie.Need-returns-3
-unfolding checkWallet
 returns-3 c = rw (c .before .enum-told3 .given .1) (c .when-loaded .ensures)
 
 returns-4 : tie.Need-returns-4
-unfolding setPin
 returns-4 c = rw (c .before .before .enum-told4 .given .1) (rw (c .before .when-not-purged .ensures) at (c .with-cvc2 .ensures))
 
 returns-5 : tie.Need-returns-5
-unfolding sign
 returns-5 c = rw (c .before .before .enum-told5 .given .1) (rw (c .before .when-loaded2 .ensures) at (c .with-cvc3 .ensures))
 
 returns-6 : tie.Need-returns-6
-unfolding verifyCard
 returns-6 c = rw (c .before .enum-told6 .given .1) (c .when-any .ensures)
 
 returns-7 : tie.Need-returns-7
-unfolding validateCard
 returns-7 c = rw (c .before .enum-told7 .given .1) (c .when-not-purged2 .ensures)
 
 returns-8 : tie.Need-returns-8
-unfolding purgeWallet
 returns-8 c = rw (c .before .enum-told8 .given .1) (c .when-loaded3 .ensures)
 
 returns-9 : tie.Need-returns-9
-unfolding readUserData
 returns-9 c = rw (c .before .enum-told9 .given .1) (c .when-any2 .ensures)
 
 returns-10 : tie.Need-returns-10
-unfolding writeUserData
 returns-10 c = rw (c .before .enum-told10 .given .1) (c .when-not-purged3 .ensures)
 
 returns-11 : tie.Need-returns-11
-unfolding writeIssuerData
 returns-11 c = rw (c .before .enum-told11 .given .1) (c .when-not-purged4 .ensures)
 
 returns-12 : tie.Need-returns-12
-unfolding readIssuerData
 returns-12 c = rw (c .before .enum-told12 .given .1) (c .always2 .ensures)
 
 pub needs-spec : {M : Type 1} → statement M

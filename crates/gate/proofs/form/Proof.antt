@@ -22,7 +22,7 @@ enum-told-2 c = search needs
 returns : tie.Need-returns
 returns c =
     let t = c .before .before in
-    ends _ _ (c .enum-told2 .given .1) (t .before .before .is-plain .ensures)
+    λ x f v. ends _ _ (c .enum-told2 .given .1) (t .before .before .is-plain .ensures)
 
 enum-told-3 : tie.Need-enum-told-3
 enum-told-3 c = search needs
@@ -34,7 +34,7 @@ returns-2 : tie.Need-returns-2
 returns-2 c =
     let t1 = c .before .before in
     let t = t1 .before .before in
-    goes-on _ _ (t1 .enum-told .given .1) (t .before .before .is-plain .ensures)
+    λ x f v. goes-on _ _ (t1 .enum-told .given .1) (t .before .before .is-plain .ensures)
     (ends _ _ (c .enum-told4 .given .1) (t .before .no-parameters .ensures))
 
 enum-told-5 : tie.Need-enum-told-5
@@ -48,7 +48,7 @@ returns-3 c =
     let t2 = c .before .before in
     let t1 = t2 .before .before in
     let t = t1 .before .before in
-    goes-on _ _ (t1 .enum-told .given .1) (t .before .before .is-plain .ensures)
+    λ x f v. goes-on _ _ (t1 .enum-told .given .1) (t .before .before .is-plain .ensures)
     (goes-on _ _ (t2 .enum-told3 .given .1) (t .before .no-parameters .ensures)
     (ends _ _ (c .enum-told6 .given .1) (t .checked .ensures)))
 
@@ -57,7 +57,7 @@ returns-4 c =
     let t2 = c .before .before in
     let t1 = t2 .before .before in
     let t = t1 .before .before in
-    goes-on _ _ (t1 .enum-told .given .1) (t .before .before .is-plain .ensures)
+    λ x f v. goes-on _ _ (t1 .enum-told .given .1) (t .before .before .is-plain .ensures)
     (goes-on _ _ (t2 .enum-told3 .given .1) (t .before .no-parameters .ensures)
     (goes-on _ _ (c .enum-told5 .given .1) (t .checked .ensures)
     refl))

@@ -75,7 +75,8 @@ returns-3 c =
     let u = b .before in
     let k = u .before .before in
     let x = k .before .before .before .before .before .before .before .args in
-    rw (fine _ (u .enum-told .given .1) (k .shape .ensures (now (x .draw))), fine _ (t .enum-told3 .given .1) (b .confirmation .ensures)) (w .carry-out .ensures)
+    rw (fine _ (u .enum-told .given .1) (k .shape .ensures (now (x .draw))), fine _ (t .enum-told3 .given .1) (b .confirmation .ensures))
+    (w .carry-out .ensures)
 
 pub answer-spec : {M : Type 1} → statement M
 answer-spec =

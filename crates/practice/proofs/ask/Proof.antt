@@ -41,7 +41,10 @@ returns-2 : tie.Need-returns-2
 unfolding askedFor
 returns-2 c = let t = c .before in
     let x = t .before .before .before .before .before .before .before .before .before .before .args in
-    rw (fine _ (t .before .before .before .enum-told .given .1) (t .before .before .before .before .before .is-card .ensures), failed _ (t .enum-told4 .given .1) (t .before .before .has-room .ensures)) (ap (λ r. posedBy r (now (x .questions))) (c .only2 .ensures))
+    rw (
+      fine _ (t .before .before .before .enum-told .given .1) (t .before .before .before .before .before .is-card .ensures),
+      failed _ (t .enum-told4 .given .1) (t .before .before .has-room .ensures),
+    ) (ap (λ r. posedBy r (now (x .questions))) (c .only2 .ensures))
 
 is-draw-requires : tie.Need-is-draw-requires
 is-draw-requires c κs = tt
@@ -59,7 +62,12 @@ returns-3 : tie.Need-returns-3
 unfolding askedFor
 returns-3 c = let t = c .before in
     let x = t .before .before .before .before .before .before .before .before .before .before .before .before .before .args in
-    rw (fine _ (t .before .before .before .before .before .before .enum-told .given .1) (t .before .before .before .before .before .before .before .before .is-card .ensures), fine _ (t .before .before .before .enum-told3 .given .1) (t .before .before .before .before .before .has-room .ensures), failed _ (t .enum-told6 .given .1) (t .before .before .is-draw .ensures)) (ap (λ r. posedBy r (now (x .questions))) (c .only3 .ensures))
+    rw (
+      fine _ (t .before .before .before .before .before .before .enum-told .given .1)
+          (t .before .before .before .before .before .before .before .before .is-card .ensures),
+      fine _ (t .before .before .before .enum-told3 .given .1) (t .before .before .before .before .before .has-room .ensures),
+      failed _ (t .enum-told6 .given .1) (t .before .before .is-draw .ensures),
+    ) (ap (λ r. posedBy r (now (x .questions))) (c .only3 .ensures))
 
 ask-card-requires : tie.Need-ask-card-requires
 ask-card-requires c κs = let h = c .before .before .before .before in
@@ -73,7 +81,12 @@ unfolding askedFor
 returns-4 c =
     let w = c .before .before in
     let t = w .before .before in
-    rw (fine _ (t .before .before .before .before .before .before .enum-told .given .1) (t .before .before .before .before .before .before .before .before .is-card .ensures), fine _ (t .before .before .before .enum-told3 .given .1) (t .before .before .before .before .before .has-room .ensures), fine _ (t .enum-told5 .given .1) (t .before .before .is-draw .ensures)) (w .ask-card .ensures)
+    rw (
+      fine _ (t .before .before .before .before .before .before .enum-told .given .1)
+          (t .before .before .before .before .before .before .before .before .is-card .ensures),
+      fine _ (t .before .before .before .enum-told3 .given .1) (t .before .before .before .before .before .has-room .ensures),
+      fine _ (t .enum-told5 .given .1) (t .before .before .is-draw .ensures),
+    ) (w .ask-card .ensures)
 
 pub ask-spec : {M : Type 1} → statement M
 ask-spec =

@@ -36,7 +36,8 @@ returns c =
     let m = now (x .img) in
     let q = now (x .request) in
     let e = c .told .ensures ∙ ap (λ z. outcome 0 z 0) (w .word-of .ensures ∙ ap wordOf (t .enum-told .given .1)) in
-    ap (λ r. posedBy r (now (x .questions))) e ∙ sym (asked-stop (decode m) q (now (x .draw)) (now (x .questions)) (stopped (decode m) q (h .header .ensures) (t .enum-told .given .1)))
+    ap (λ r. posedBy r (now (x .questions))) e
+    ∙ sym (asked-stop (decode m) q (now (x .draw)) (now (x .questions)) (stopped (decode m) q (h .header .ensures) (t .enum-told .given .1)))
 
 body-requires : tie.Need-body-requires
 body-requires c κs = tt
@@ -94,7 +95,8 @@ cast-told c =
     let cmd = k .h .given .0 .0 in
     let g = judged-read q (h .header .ensures) (k .h .given .1) (b .body .ensures) (f .fill .ensures) (decode m) (j .judge .ensures) in
     let v = read-view q (h .header .ensures) (k .h .given .1) (b .body .ensures) (f .fill .ensures) in
-    let ok = sent-fields (decode m) q (now (x .draw)) (now (x .questions)) cmd (head-command q (h .header .ensures) (k .h .given .1)) (sym g ∙ t .enum-told2 .given .1) in
+    let ok = sent-fields (decode m) q (now (x .draw)) (now (x .questions)) cmd (head-command q (h .header .ensures) (k .h .given .1))
+    (sym g ∙ t .enum-told2 .given .1) in
     let z = posed-front cmd m _ (now (x .draw)) (ap (row cmd .fields (decode m .face)) v ∙ ok) (o .pose .ensures) (s .pre) in
     omega (arith, z .1)
 

@@ -18,7 +18,8 @@ cast-result c =
     let t = w .before .before .before .before in
     let s = t .before .before .before .before .before .before .before in
     let x = s .args in
-    let z = responded (x .cmd) (now (x .img)) (x .word) (viewBy (now (x .p)) (now (x .places))) (now (x .draw)) (now (x .answers)) (t .tell .ensures) (w .put16 .ensures) (s .pre) in
+    let z = responded (x .cmd) (now (x .img)) (x .word) (viewBy (now (x .p)) (now (x .places))) (now (x .draw)) (now (x .answers)) (t .tell .ensures)
+    (w .put16 .ensures) (s .pre) in
     omega (arith, z .1)
 
 same-length : tie.Need-same-length
@@ -30,7 +31,8 @@ returns c =
     let t = w .before .before .before .before in
     let s = t .before .before .before .before .before .before .before in
     let x = s .args in
-    let z = responded (x .cmd) (now (x .img)) (x .word) (viewBy (now (x .p)) (now (x .places))) (now (x .draw)) (now (x .answers)) (t .tell .ensures) (w .put16 .ensures) (s .pre) in
+    let z = responded (x .cmd) (now (x .img)) (x .word) (viewBy (now (x .p)) (now (x .places))) (now (x .draw)) (now (x .answers)) (t .tell .ensures)
+    (w .put16 .ensures) (s .pre) in
     z .0
 
 pub respond-spec : {M : Type 1} → statement M

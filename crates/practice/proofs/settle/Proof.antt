@@ -42,7 +42,10 @@ returns-2 : tie.Need-returns-2
 unfolding settled
 returns-2 c = let t = c .before in
     let x = t .before .before .before .before .before .before .before .before .before .before .before .before .args in
-    rw (fine _ (t .before .before .before .enum-told .given .1) (t .before .before .before .before .before .is-card .ensures), failed _ (t .enum-told4 .given .1) (t .before .before .has-rooms .ensures)) (ap (λ r. settledBy r (now (x .response)) (now (x .next))) (c .only2 .ensures))
+    rw (
+      fine _ (t .before .before .before .enum-told .given .1) (t .before .before .before .before .before .is-card .ensures),
+      failed _ (t .enum-told4 .given .1) (t .before .before .has-rooms .ensures),
+    ) (ap (λ r. settledBy r (now (x .response)) (now (x .next))) (c .only2 .ensures))
 
 is-draw-requires : tie.Need-is-draw-requires
 is-draw-requires c κs = tt
@@ -60,7 +63,12 @@ returns-3 : tie.Need-returns-3
 unfolding settled
 returns-3 c = let t = c .before in
     let x = t .before .before .before .before .before .before .before .before .before .before .before .before .before .before .before .args in
-    rw (fine _ (t .before .before .before .before .before .before .enum-told .given .1) (t .before .before .before .before .before .before .before .before .is-card .ensures), fine _ (t .before .before .before .enum-told3 .given .1) (t .before .before .before .before .before .has-rooms .ensures), failed _ (t .enum-told6 .given .1) (t .before .before .is-draw .ensures)) (ap (λ r. settledBy r (now (x .response)) (now (x .next))) (c .only3 .ensures))
+    rw (
+      fine _ (t .before .before .before .before .before .before .enum-told .given .1)
+          (t .before .before .before .before .before .before .before .before .is-card .ensures),
+      fine _ (t .before .before .before .enum-told3 .given .1) (t .before .before .before .before .before .has-rooms .ensures),
+      failed _ (t .enum-told6 .given .1) (t .before .before .is-draw .ensures),
+    ) (ap (λ r. settledBy r (now (x .response)) (now (x .next))) (c .only3 .ensures))
 
 settle-card-requires : tie.Need-settle-card-requires
 settle-card-requires c κs =
@@ -80,7 +88,12 @@ unfolding settled
 returns-4 c =
     let w = c .before .before .before .before in
     let t = w .before .before .before in
-    rw (fine _ (t .before .before .before .before .before .before .enum-told .given .1) (t .before .before .before .before .before .before .before .before .is-card .ensures), fine _ (t .before .before .before .enum-told3 .given .1) (t .before .before .before .before .before .has-rooms .ensures), fine _ (t .enum-told5 .given .1) (t .before .before .is-draw .ensures)) (w .settle-card .ensures)
+    rw (
+      fine _ (t .before .before .before .before .before .before .enum-told .given .1)
+          (t .before .before .before .before .before .before .before .before .is-card .ensures),
+      fine _ (t .before .before .before .enum-told3 .given .1) (t .before .before .before .before .before .has-rooms .ensures),
+      fine _ (t .enum-told5 .given .1) (t .before .before .is-draw .ensures),
+    ) (w .settle-card .ensures)
 
 pub settle-spec : {M : Type 1} → statement M
 settle-spec =

@@ -115,7 +115,8 @@ returns-3 c =
     let g = judged-read q (h .header .ensures) (k .h .given .1) (b .body .ensures) (f .fill .ensures) m (j .judge .ensures) in
     let v = read-view q (h .header .ensures) (k .h .given .1) (b .body .ensures) (f .fill .ensures) in
     r .answer .ensures ∙ ap (λ z. answeredIn cmd m z d a (now (x .response)) (now (x .next))) v
-    ∙ sym (settled-pass m q d a (now (x .response)) (now (x .next)) cmd (head-command q (h .header .ensures) (k .h .given .1)) (sym g ∙ t .enum-told2 .given .1))
+    ∙ sym (settled-pass m q d a (now (x .response)) (now (x .next)) cmd (head-command q (h .header .ensures) (k .h .given .1))
+    (sym g ∙ t .enum-told2 .given .1))
 
 pub settle-card-spec : {M : Type 1} → statement M
 settle-card-spec =

@@ -64,14 +64,13 @@ enum-told-12 : tie.Need-enum-told-12
 enum-told-12 c = search needs
 
 returns : tie.Need-returns
-unfolding readCard eachAsked
+unfolding eachAsked
 returns c = rw (c .enum-told .given .1) wrote-none
 
 same-length : tie.Need-same-length
 same-length c = search needs
 
 returns-2 : tie.Need-returns-2
-unfolding createWallet
 returns-2 c =
     let c1 = c .before .before in
     let c2 = c1 .before .before in
@@ -81,21 +80,19 @@ same-length-2 : tie.Need-same-length-2
 same-length-2 c = search needs
 
 returns-3 : tie.Need-returns-3
-unfolding checkWallet
 returns-3 c =
     let c1 = c .before .before in
     let c2 = c1 .before .before in
     rw (c2 .enum-told3 .given .1) (c1 .pose-check .ensures)
 
 returns-4 : tie.Need-returns-4
-unfolding setPin eachAsked
+unfolding eachAsked
 returns-4 c = rw (c .enum-told4 .given .1) wrote-none
 
 same-length-3 : tie.Need-same-length-3
 same-length-3 c = search needs
 
 returns-5 : tie.Need-returns-5
-unfolding sign
 returns-5 c =
     let c1 = c .before .before in
     let c2 = c1 .before .before in
@@ -105,7 +102,6 @@ same-length-4 : tie.Need-same-length-4
 same-length-4 c = search needs
 
 returns-6 : tie.Need-returns-6
-unfolding verifyCard
 returns-6 c =
     let c1 = c .before .before in
     let c2 = c1 .before .before in
@@ -115,36 +111,34 @@ same-length-5 : tie.Need-same-length-5
 same-length-5 c = search needs
 
 returns-7 : tie.Need-returns-7
-unfolding validateCard
 returns-7 c =
     let c1 = c .before .before in
     let c2 = c1 .before .before in
     rw (c2 .enum-told7 .given .1) (c1 .pose-validate .ensures (viewBy [] []) [])
 
 returns-8 : tie.Need-returns-8
-unfolding purgeWallet eachAsked
+unfolding eachAsked
 returns-8 c = rw (c .enum-told8 .given .1) wrote-none
 
 returns-9 : tie.Need-returns-9
-unfolding readUserData eachAsked
+unfolding eachAsked
 returns-9 c = rw (c .enum-told9 .given .1) wrote-none
 
 returns-10 : tie.Need-returns-10
-unfolding writeUserData eachAsked
+unfolding eachAsked
 returns-10 c = rw (c .enum-told10 .given .1) wrote-none
 
 same-length-6 : tie.Need-same-length-6
 same-length-6 c = search needs
 
 returns-11 : tie.Need-returns-11
-unfolding writeIssuerData
 returns-11 c =
     let c1 = c .before .before in
     let c2 = c1 .before .before in
     rw (c2 .enum-told11 .given .1) (c1 .pose-issuer .ensures [])
 
 returns-12 : tie.Need-returns-12
-unfolding readIssuerData eachAsked
+unfolding eachAsked
 returns-12 c = rw (c .enum-told12 .given .1) wrote-none
 
 pub pose-spec : {M : Type 1} → statement M

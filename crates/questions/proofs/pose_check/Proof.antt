@@ -30,7 +30,6 @@ same-length : tie.Need-same-length
 same-length c = search needs
 
 returns : tie.Need-returns
-unfolding checkWallet
 returns c =
     let c1 = c .before .before in
     let c2 = c1 .before .before in
@@ -47,7 +46,6 @@ same-length-2 : tie.Need-same-length-2
 same-length-2 c = search needs
 
 returns-2 : tie.Need-returns-2
-unfolding checkWallet
 returns-2 c =
     let c1 = c .before in
     let c2 = c1 .before .before .before in

@@ -24,7 +24,7 @@ same-length : tie.Need-same-length
 same-length c = search needs
 
 returns : tie.Need-returns
-unfolding createWallet joined
+unfolding joined
 returns c =
     let c1 = c .before .before in
     let c2 = c1 .before in

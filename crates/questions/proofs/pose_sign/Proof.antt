@@ -17,7 +17,7 @@ enum-told-2 : tie.Need-enum-told-2
 enum-told-2 c = search needs
 
 returns : tie.Need-returns
-unfolding sign eachAsked
+unfolding eachAsked
 returns c =
     let c1 = c .before .before in
     λ d. rw (asks-again _ (sym (c1 .signing .ensures) ∙ c .enum-told2 .given .1)) wrote-none
@@ -38,7 +38,6 @@ same-length : tie.Need-same-length
 same-length c = search needs
 
 returns-2 : tie.Need-returns-2
-unfolding sign
 returns-2 c =
     let c1 = c .before .before in
     let c2 = c1 .before .before in

@@ -31,7 +31,6 @@ same-length : tie.Need-same-length
 same-length c = search needs
 
 returns : tie.Need-returns
-unfolding validateCard
 returns c =
     let c1 = c .before .before in
     let c2 = c1 .before .before in

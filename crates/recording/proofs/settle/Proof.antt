@@ -3,7 +3,7 @@ use denote.Ref.{now}
 use lib.ListN.{replicate}
 use Rattle.text.specs.Text.{unhex}
 use Rattle.card.specs.Layout.{imageRoom}
-use Rattle.manual.specs.Settle.{settleCall, settled}
+use Rattle.manual.specs.Settle.{holding, settleCall, settled}
 use Rattle.recording.specs.Step.{renewed}
 use Rattle.recording.proofs.Laws.{draw-fits, answers-fits, read-back}
 use borrow.Author.Needs.{needs}
@@ -77,7 +77,7 @@ returns c =
     let l = now (x .l) in
     let p = d .part .ensures ∙ read-back (u .unhex .ensures) (rw (w .draw .ensures) (draw-fits l (s .pre .0))) ∙ ap unhex (w .draw .ensures) in
     let q = y .part2 .ensures ∙ read-back (v .unhex2 .ensures) (rw (a .answers .ensures) (answers-fits l (s .pre .0))) ∙ ap unhex (a .answers .ensures) in
-    let e = g .settle .ensures ∙ (λ j. settled m (settleCall (now (x .request)) (p j) (q j) (now (x .response)) (replicate imageRoom 0))) in
+    let e = g .settle .ensures ∙ (λ j. settled (holding m) (settleCall (now (x .request)) (p j) (q j) (now (x .response)) (replicate imageRoom 0))) in
     let i = n .renew .ensures ∙ ap (λ z. renewed (z .result .number) (z .next) m) e in
     record { result = ap (λ z. z .result) e; response = ap (λ z. z .response) e; image = i }
 

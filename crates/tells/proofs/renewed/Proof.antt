@@ -29,7 +29,6 @@ add-result : tie.Need-add-result
 add-result c = search needs
 
 returns : tie.Need-returns
-unfolding setPin
 returns c =
     let c1 = c .before in
     let c2 = c1 .before in

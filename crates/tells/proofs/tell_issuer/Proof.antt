@@ -23,7 +23,7 @@ same-length : tie.Need-same-length
 same-length c = search needs
 
 returns : tie.Need-returns
-unfolding readIssuerData each
+unfolding each
 returns c =
     let c1 = c .before .before in
     let c2 = c1 .before in
@@ -37,7 +37,7 @@ same-length-2 : tie.Need-same-length-2
 same-length-2 c = search needs
 
 returns-2 : tie.Need-returns-2
-unfolding readIssuerData each
+unfolding each
 returns-2 c =
     let c1 = c .before .before in
     let c2 = c1 .before .before .before in

@@ -77,7 +77,6 @@ same-length : tie.Need-same-length
 same-length c = search needs
 
 returns : tie.Need-returns
-unfolding readCard
 returns c =
     let c1 = c .before .before in
     let c2 = c1 .before .before in
@@ -87,7 +86,6 @@ same-length-2 : tie.Need-same-length-2
 same-length-2 c = search needs
 
 returns-2 : tie.Need-returns-2
-unfolding createWallet
 returns-2 c =
     let c1 = c .before .before in
     let c2 = c1 .before .before in
@@ -97,21 +95,19 @@ same-length-3 : tie.Need-same-length-3
 same-length-3 c = search needs
 
 returns-3 : tie.Need-returns-3
-unfolding checkWallet
 returns-3 c =
     let c1 = c .before .before in
     let c2 = c1 .before .before in
     rw (c2 .enum-told3 .given .1) (c1 .tell-checked .ensures)
 
 returns-4 : tie.Need-returns-4
-unfolding setPin each
+unfolding each
 returns-4 c = rw (c .enum-told4 .given .1) wrote-none
 
 same-length-4 : tie.Need-same-length-4
 same-length-4 c = search needs
 
 returns-5 : tie.Need-returns-5
-unfolding sign
 returns-5 c =
     let c1 = c .before .before in
     let c2 = c1 .before .before in
@@ -121,7 +117,6 @@ same-length-5 : tie.Need-same-length-5
 same-length-5 c = search needs
 
 returns-6 : tie.Need-returns-6
-unfolding verifyCard
 returns-6 c =
     let c1 = c .before .before in
     let c2 = c1 .before .before in
@@ -131,7 +126,6 @@ same-length-6 : tie.Need-same-length-6
 same-length-6 c = search needs
 
 returns-7 : tie.Need-returns-7
-unfolding validateCard
 returns-7 c =
     let c1 = c .before .before in
     let c2 = c1 .before .before in
@@ -141,7 +135,6 @@ same-length-7 : tie.Need-same-length-7
 same-length-7 c = search needs
 
 returns-8 : tie.Need-returns-8
-unfolding purgeWallet
 returns-8 c =
     let c1 = c .before .before in
     let c2 = c1 .before .before in
@@ -151,25 +144,23 @@ same-length-8 : tie.Need-same-length-8
 same-length-8 c = search needs
 
 returns-9 : tie.Need-returns-9
-unfolding readUserData
 returns-9 c =
     let c1 = c .before .before in
     let c2 = c1 .before .before in
     rw (c2 .enum-told9 .given .1) (c1 .tell-user .ensures (viewBy [] []) [] [])
 
 returns-10 : tie.Need-returns-10
-unfolding writeUserData each
+unfolding each
 returns-10 c = rw (c .enum-told10 .given .1) wrote-none
 
 returns-11 : tie.Need-returns-11
-unfolding writeIssuerData each
+unfolding each
 returns-11 c = rw (c .enum-told11 .given .1) wrote-none
 
 same-length-9 : tie.Need-same-length-9
 same-length-9 c = search needs
 
 returns-12 : tie.Need-returns-12
-unfolding readIssuerData
 returns-12 c =
     let c1 = c .before .before in
     let c2 = c1 .before .before in
