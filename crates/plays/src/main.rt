@@ -48,11 +48,6 @@ fn feed_text(p: Player, t: &[u8], text: &mut [u8], img: &mut [u8], out: &mut [u8
     q
 }
 
-fn feed_line(p: Player, t: &[u8], text: &mut [u8], img: &mut [u8], out: &mut [u8]) -> Player {
-    let q = feed_text(p, t, text, img, out);
-    feed(q, lines::LINE_FEED, text, img, out)
-}
-
 // The text of a line, with or without a line feed, once and so many times.
 fn feed_once(
     p: Player,
@@ -62,10 +57,11 @@ fn feed_once(
     img: &mut [u8],
     out: &mut [u8],
 ) -> Player {
+    let q = feed_text(p, t, text, img, out);
     if whole {
-        return feed_line(p, t, text, img, out);
+        return feed(q, lines::LINE_FEED, text, img, out);
     }
-    feed_text(p, t, text, img, out)
+    q
 }
 
 fn feed_many(
@@ -86,11 +82,38 @@ fn feed_many(
     q
 }
 
-fn times(t: &[u8]) -> u32 {
-    match text::number_of(lines::head_to(t, lines::TAB)) {
+// Whether a line begins with one of two letters.
+fn is_any(line: &[u8], a: u8, b: u8) -> bool {
+    let letter = wire::get8(line, 0);
+    wire::either(letter == a, letter == b)
+}
+
+// After the letter, N and R have how many times the text is fed; then comes the text, as in L and T.
+fn is_counted(line: &[u8]) -> bool {
+    is_any(line, b'N', b'R')
+}
+
+fn number(digits: &[u8]) -> u32 {
+    match text::number_of(digits) {
         Number::Is(n) => n,
         Number::None => 0,
     }
+}
+
+fn times(line: &[u8]) -> u32 {
+    let t = lines::tail_after(line, lines::TAB);
+    if is_counted(line) {
+        return number(lines::head_to(t, lines::TAB));
+    }
+    if is_any(line, b'L', b'T') { 1 } else { 0 }
+}
+
+fn text_of(line: &[u8]) -> &[u8] {
+    let t = lines::tail_after(line, lines::TAB);
+    if is_counted(line) {
+        return lines::tail_after(t, lines::TAB);
+    }
+    t
 }
 
 // A recording begins; its name is printed.
@@ -106,30 +129,18 @@ fn close(p: Player, text: &mut [u8], img: &mut [u8], out: &mut [u8]) -> Player {
 }
 
 fn run_line(p: Player, line: &[u8], text: &mut [u8], img: &mut [u8], out: &mut [u8]) -> Player {
-    let t = lines::tail_after(line, lines::TAB);
-    let u = lines::tail_after(t, lines::TAB);
     match wire::get8(line, 0) {
-        b'C' => {
-            return begin(line);
-        }
-        b'L' => {
-            return feed_line(p, t, text, img, out);
-        }
-        b'N' => {
-            return feed_many(p, u, true, times(t), text, img, out);
-        }
-        b'T' => {
-            return feed_text(p, t, text, img, out);
-        }
-        b'R' => {
-            return feed_many(p, u, false, times(t), text, img, out);
-        }
-        b'E' => {
-            return close(p, text, img, out);
-        }
-        _ => {
-            return p;
-        }
+        b'C' => begin(line),
+        b'E' => close(p, text, img, out),
+        _ => feed_many(
+            p,
+            text_of(line),
+            is_any(line, b'L', b'N'),
+            times(line),
+            text,
+            img,
+            out,
+        ),
     }
 }
 

@@ -23,19 +23,6 @@ fn third(line: &[u8]) -> &[u8] {
     second(lines::tail_after(line, lines::TAB))
 }
 
-// The bytes of a field, at `at`, and the place after them.
-fn put_first(line: &[u8], out: &mut [u8], at: usize) -> usize {
-    text::unhex(first(line), out, at)
-}
-
-fn put_second(line: &[u8], out: &mut [u8], at: usize) -> usize {
-    text::unhex(second(line), out, at)
-}
-
-fn put_third(line: &[u8], out: &mut [u8], at: usize) -> usize {
-    text::unhex(third(line), out, at)
-}
-
 // What stands between two places.
 fn between(s: &[u8], a: usize, e: usize) -> &[u8] {
     if a <= e {
@@ -53,22 +40,20 @@ fn number(digits: &[u8]) -> usize {
 }
 
 fn image_line(line: &[u8], img: &mut [u8], s: State) -> State {
-    let n = put_first(line, img, 0);
-    s.with_image(n)
+    s.with_image(text::unhex(first(line), img, 0))
 }
 
 fn write_line(line: &[u8], img: &mut [u8], s: State) -> State {
-    let at = number(first(line));
-    put_second(line, img, at);
+    text::unhex(second(line), img, number(first(line)));
     s
 }
 
 fn lend_line(line: &[u8], s: State) -> State {
-    s.with_lent(
-        number(first(line)),
-        number(second(line)),
-        number(third(line)),
-    )
+    let mut t = s;
+    t.questions = number(first(line));
+    t.response = number(second(line));
+    t.next = number(third(line));
+    t
 }
 
 // The questions are written into the first `size` bytes.
@@ -93,8 +78,8 @@ fn ask(img: &[u8], request: &[u8], draw: &[u8], size: usize) {
 
 fn ask_line(line: &[u8], img: &[u8], s: State) -> State {
     let mut bytes = [0u8; 8192];
-    let a = put_first(line, &mut bytes, 0);
-    let b = put_second(line, &mut bytes, a);
+    let a = text::unhex(first(line), &mut bytes, 0);
+    let b = text::unhex(second(line), &mut bytes, a);
     ask(
         wire::part(img, 0, s.image),
         between(&bytes, 0, a),
@@ -151,9 +136,9 @@ fn settle(img: &mut [u8], request: &[u8], draw: &[u8], answers: &[u8], s: State)
 
 fn settle_line(line: &[u8], img: &mut [u8], s: State) -> State {
     let mut bytes = [0u8; 8192];
-    let a = put_first(line, &mut bytes, 0);
-    let b = put_second(line, &mut bytes, a);
-    let c = put_third(line, &mut bytes, b);
+    let a = text::unhex(first(line), &mut bytes, 0);
+    let b = text::unhex(second(line), &mut bytes, a);
+    let c = text::unhex(third(line), &mut bytes, b);
     settle(
         img,
         between(&bytes, 0, a),
@@ -161,11 +146,6 @@ fn settle_line(line: &[u8], img: &mut [u8], s: State) -> State {
         between(&bytes, b, c),
         s,
     )
-}
-
-fn other_line(line: &[u8], s: State) -> State {
-    print::same(line);
-    s
 }
 
 fn run_line(line: &[u8], img: &mut [u8], s: State) -> State {
@@ -186,7 +166,8 @@ fn run_line(line: &[u8], img: &mut [u8], s: State) -> State {
             return settle_line(line, img, s);
         }
         _ => {
-            return other_line(line, s);
+            print::same(line);
+            return s;
         }
     }
 }
@@ -214,7 +195,9 @@ fn read_some(line: &mut [u8], img: &mut [u8], s: State) -> State {
     let mut bytes = io::large_buffer();
     let n = io::read_full(STDIN_FILENO, &mut bytes);
     if n == 0 {
-        return s.at_end();
+        let mut t = s;
+        t.ended = true;
+        return t;
     }
     take_bytes(&bytes[..n], line, img, s)
 }

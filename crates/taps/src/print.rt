@@ -13,14 +13,8 @@ fn say(s: &[u8]) {
 
 // A line as it is.
 pub fn same(line: &[u8]) {
-    let mut out = [0u8; 8200];
-    let n = wire::put_bytes(&mut out, 0, line);
-    let e = wire::put8(&mut out, n, lines::LINE_FEED);
-    say(wire::part(&out, 0, e));
-}
-
-fn put_tab(out: &mut [u8], at: usize) -> usize {
-    wire::put8(out, at, lines::TAB)
+    say(line);
+    say(b"\n");
 }
 
 fn put_word(out: &mut [u8], at: usize, x: u16) -> usize {
@@ -28,43 +22,28 @@ fn put_word(out: &mut [u8], at: usize, x: u16) -> usize {
     text::put_hex(out, at, &two)
 }
 
-fn put_byte(out: &mut [u8], at: usize, x: u8) -> usize {
-    let one = [x];
-    text::put_hex(out, at, &one)
-}
-
 // A tab, and then a number, or bytes.
 fn put_number(out: &mut [u8], at: usize, n: u32) -> usize {
-    let a = put_tab(out, at);
+    let a = wire::put8(out, at, lines::TAB);
     text::put_decimal(out, a, n)
 }
 
 fn put_bytes(out: &mut [u8], at: usize, v: &[u8]) -> usize {
-    let a = put_tab(out, at);
+    let a = wire::put8(out, at, lines::TAB);
     text::put_hex(out, a, v)
 }
 
 fn put_outcome(out: &mut [u8], letter: u8, o: Outcome) -> usize {
     let a = wire::put8(out, 0, letter);
     let b = put_number(out, a, wire::wide(o.number));
-    let c = put_tab(out, b);
+    let c = wire::put8(out, b, lines::TAB);
     let d = put_word(out, c, o.word);
     put_number(out, d, o.length)
 }
 
-// How many bytes of the questions or the response, and of the next image, are written.
-fn written(o: Outcome) -> usize {
-    if o.number == 0 {
-        return o.length as usize;
-    }
-    0
-}
-
-fn image_written(o: Outcome) -> usize {
-    if o.number == 0 {
-        return IMAGE_SIZE;
-    }
-    0
+// Of so many bytes, how many are written: none where the call ended with a number.
+fn written(o: Outcome, n: usize) -> usize {
+    if o.number == 0 { n } else { 0 }
 }
 
 // Whether what lies from `at` on is as it was lent.
@@ -79,25 +58,22 @@ fn untouched(s: &[u8], at: usize) -> bool {
     true
 }
 
-fn put_end(out: &mut [u8], at: usize, clean: bool) -> usize {
+// Writes the line, and a line T where what was not to be written is not as it was lent.
+fn finish(out: &[u8], end: usize, clean: bool) {
+    say(wire::part(out, 0, end));
     if clean {
-        return wire::put8(out, at, lines::LINE_FEED);
+        say(b"\n");
+    } else {
+        say(b"\nT\n");
     }
-    wire::put_bytes(out, at, b"\nT\n")
-}
-
-// Ends the line, and writes it.
-fn finish(out: &mut [u8], at: usize, clean: bool) {
-    let e = put_end(out, at, clean);
-    say(wire::part(out, 0, e));
 }
 
 pub fn asked(o: Outcome, questions: &[u8]) {
     let mut out = [0u8; 16384];
-    let n = written(o);
+    let n = written(o, o.length as usize);
     let a = put_outcome(&mut out, b'A', o);
     let b = put_bytes(&mut out, a, wire::part(questions, 0, n));
-    finish(&mut out, b, untouched(questions, n));
+    finish(&out, b, untouched(questions, n));
 }
 
 fn differs(old: &[u8], new: &[u8], i: u16) -> bool {
@@ -136,7 +112,7 @@ fn put_start(out: &mut [u8], from: usize, at: usize, old: &[u8], new: &[u8], i: 
 fn put_change(out: &mut [u8], from: usize, at: usize, old: &[u8], new: &[u8], i: u16) -> usize {
     if differs(old, new, i) {
         let a = put_start(out, from, at, old, new, i);
-        return put_byte(out, a, wire::get8(new, i as u32));
+        return text::put_hex(out, a, wire::part(new, i as usize, 1));
     }
     at
 }
@@ -156,7 +132,7 @@ fn put_changes(out: &mut [u8], from: usize, old: &[u8], new: &[u8]) -> usize {
 }
 
 fn put_next(out: &mut [u8], at: usize, o: Outcome, old: &[u8], next: &[u8]) -> usize {
-    let a = put_tab(out, at);
+    let a = wire::put8(out, at, lines::TAB);
     if o.number == 0 {
         return put_changes(out, a, old, next);
     }
@@ -165,15 +141,15 @@ fn put_next(out: &mut [u8], at: usize, o: Outcome, old: &[u8], next: &[u8]) -> u
 
 fn clean(o: Outcome, response: &[u8], next: &[u8]) -> bool {
     wire::both(
-        untouched(response, written(o)),
-        untouched(next, image_written(o)),
+        untouched(response, written(o, o.length as usize)),
+        untouched(next, written(o, IMAGE_SIZE)),
     )
 }
 
 pub fn settled(o: Outcome, old: &[u8], response: &[u8], next: &[u8]) {
     let mut out = [0u8; 16384];
     let a = put_outcome(&mut out, b'S', o);
-    let b = put_bytes(&mut out, a, wire::part(response, 0, written(o)));
+    let b = put_bytes(&mut out, a, wire::part(response, 0, o.length as usize));
     let c = put_next(&mut out, b, o, old, next);
-    finish(&mut out, c, clean(o, response, next));
+    finish(&out, c, clean(o, response, next));
 }

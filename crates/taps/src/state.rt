@@ -32,16 +32,4 @@ impl State {
         self.image = n;
         self
     }
-
-    pub fn with_lent(mut self, questions: usize, response: usize, next: usize) -> State {
-        self.questions = questions;
-        self.response = response;
-        self.next = next;
-        self
-    }
-
-    pub fn at_end(mut self) -> State {
-        self.ended = true;
-        self
-    }
 }
