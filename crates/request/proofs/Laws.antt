@@ -1,10 +1,11 @@
--- What a SIGN asks for tells whether it is a new one, and how long its hash array is; the payload of a request that check 1 lets through. Assumes nothing.
+-- What a SIGN asks for tells whether it is a new one, and how long its hash array is; the command of an INS that is known; the payload of a request that
+-- check 1 lets through. Assumes nothing.
 use Prim.Native.Nat.{ℕ, _+_, _*_, _≤_}
 use native.Mathlib.Omega.{arith}
-use mathlib.Core.Path.{_≡_, refl, subst}
+use mathlib.Core.Path.{_≡_, refl, sym, ap, subst}
 use mathlib.Core.List.{List}
-use mathlib.Core.Bool.{true, false, cond}
-use lib.ListN.{length, getD, drop, length-drop}
+use mathlib.Core.Bool.{true, false}
+use lib.ListN.{length, getD, length-drop}
 use lib.Dec.{ltb, eqb}
 use borrow.Author.Tests.{ltb-false}
 use Rattle.wire.proofs.Laws.{by-cases}
@@ -12,10 +13,10 @@ use Rattle.fields.specs.Fields.{View, val}
 use Rattle.manual.specs.Words.{leastRequest, mostRequest}
 use Rattle.manual.specs.Tags.{TransactionHash}
 use Rattle.manual.specs.declared.Lc.{Lc}
-use Rattle.manual.specs.declared.Lc.the-variants.{Body, Wrong}
+use Rattle.manual.specs.declared.Lc.the-variants.{Wrong}
 use Rattle.manual.specs.declared.Signing.{Signing}
 use Rattle.manual.specs.declared.Signing.the-variants.{New, Again}
-use Rattle.manual.specs.Request.{lcOf, fits, payloadBy, payload, bodyIn}
+use Rattle.manual.specs.Request.{lcOf, fits, payloadBy, payload, bodyIn, commands, listedIn, insOf}
 use Rattle.manual.specs.Wallet.{isNew, signing}
 
 abbrev Asks : View → Signing → Type 0
@@ -31,6 +32,11 @@ asks-new v e = subst (Asks v) e (asks v)
 
 pub asks-again : (v : View) → signing v ≡ Again → isNew v ≡ false
 asks-again v e = subst (Asks v) e (asks v)
+
+-- THE COMMAND of an INS that is a number: what the list has there
+pub listed-at : {b n : ℕ} → b ≡ n → listedIn commands n ≡ insOf b
+unfolding insOf
+listed-at e = ap insOf (sym e)
 
 -- THE PAYLOAD: where an Lc that fits says, and shorter than a request may be
 module _ (q : List ℕ) where

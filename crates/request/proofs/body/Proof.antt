@@ -1,6 +1,5 @@
 use mathlib.Core.Path.{sym, _∙_}
 use borrow.Author.Tests.{eq-eqb, ne-eqb}
-use borrow.Author.Needs.{needs}
 use Rattle.request.proofs.body.Statement.{statement}
 use Rattle.request.proofs.body.Tie as tie
 

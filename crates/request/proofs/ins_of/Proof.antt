@@ -1,56 +1,44 @@
-use mathlib.Core.Path.{sym, ap}
 use borrow.Author.Tests.{ne-eqb}
 use Rattle.manual.specs.Request.{insOf}
+use Rattle.request.proofs.Laws.{listed-at}
 use Rattle.request.proofs.ins_of.Statement.{statement}
 use Rattle.request.proofs.ins_of.Tie as tie
 
 returns : tie.Need-returns
-unfolding insOf
-returns c = sym (ap insOf (c .match .keys1))
+returns c = listed-at (c .match .keys1)
 
 returns-2 : tie.Need-returns-2
-unfolding insOf
-returns-2 c = sym (ap insOf (c .match .keys2))
+returns-2 c = listed-at (c .match .keys2)
 
 returns-3 : tie.Need-returns-3
-unfolding insOf
-returns-3 c = sym (ap insOf (c .match .keys3))
+returns-3 c = listed-at (c .match .keys3)
 
 returns-4 : tie.Need-returns-4
-unfolding insOf
-returns-4 c = sym (ap insOf (c .match .keys4))
+returns-4 c = listed-at (c .match .keys4)
 
 returns-5 : tie.Need-returns-5
-unfolding insOf
-returns-5 c = sym (ap insOf (c .match .keys5))
+returns-5 c = listed-at (c .match .keys5)
 
 returns-6 : tie.Need-returns-6
-unfolding insOf
-returns-6 c = sym (ap insOf (c .match .keys6))
+returns-6 c = listed-at (c .match .keys6)
 
 returns-7 : tie.Need-returns-7
-unfolding insOf
-returns-7 c = sym (ap insOf (c .match .keys7))
+returns-7 c = listed-at (c .match .keys7)
 
 returns-8 : tie.Need-returns-8
-unfolding insOf
-returns-8 c = sym (ap insOf (c .match .keys8))
+returns-8 c = listed-at (c .match .keys8)
 
 returns-9 : tie.Need-returns-9
-unfolding insOf
-returns-9 c = sym (ap insOf (c .match .keys9))
+returns-9 c = listed-at (c .match .keys9)
 
 returns-10 : tie.Need-returns-10
-unfolding insOf
-returns-10 c = sym (ap insOf (c .match .keys10))
+returns-10 c = listed-at (c .match .keys10)
 
 returns-11 : tie.Need-returns-11
-unfolding insOf
-returns-11 c = sym (ap insOf (c .match .keys11))
+returns-11 c = listed-at (c .match .keys11)
 
 returns-12 : tie.Need-returns-12
-unfolding insOf
-returns-12 c = sym (ap insOf (c .match .keys12))
+returns-12 c = listed-at (c .match .keys12)
 
 returns-13 : tie.Need-returns-13
 unfolding insOf
