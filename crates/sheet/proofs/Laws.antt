@@ -3,10 +3,10 @@ use Prim.Native.Nat.{ℕ, zero, suc, _+_, _-_, _≤_, _<_}
 use native.Mathlib.Omega.{arith}
 use native.Mathlib.Numerals.{add-one}
 use native.Mathlib.Decide.{decLt}
-use mathlib.Core.Path.{_≡_, refl}
-use mathlib.Core.List.{List, []}
-use mathlib.Core.Bool.{true, false, cond}
-use lib.ListN.{length, List·getD-eq-default}
+use mathlib.Core.Path.{_≡_, refl, sym, ap, _∙_}
+use mathlib.Core.List.{List, [], _∷_}
+use mathlib.Core.Bool.{Bool, true, false, cond, _&&_}
+use lib.ListN.{length, getD, List·getD-eq-default}
 use lib.Dec.{ltb}
 use borrow.Author.Tests.{ltb-true}
 use Rattle.wire.specs.Wire.{alike}
@@ -35,6 +35,14 @@ pub is-ended : (r : Row) (s : List ℕ) → goodLine r s ≡ true → ended s �
 unfolding goodLine
 is-ended r s e = both-true (ended s) (goodRow r (nameIn s) (valueIn s)) e .0
 
+-- THE ROW of a line whose number is known: what the table has there
+pub on-line :
+    {k n : ℕ} (name value : List ℕ) {b : Bool} → k ≡ n
+    → b ≡ (alike name (getD (noRow ∷ rows) n noRow .name) && getD (noRow ∷ rows) n noRow .good value)
+    → b ≡ goodRow (rowOf k) name value
+unfolding goodRow rowOf
+on-line name value e f = f ∙ ap (λ m. goodRow (rowOf m) name value) (sym e)
+
 -- one more number is ruled out
 pub past : (n : ℕ) {k : ℕ} → n ≤ k → (k ≡ n → ⊥) → suc n ≤ k
 past n {k} h f = go (decLt n k)
@@ -45,7 +53,7 @@ past n {k} h f = go (decLt n k)
 
 -- a number that is no line's has no row
 pub no-row : (k : ℕ) (name value : List ℕ) → (1 ≤ k → k ≤ sheetLines → ⊥) → goodRow (rowOf k) name value ≡ false
-unfolding goodRow rowOf rows noRow
+unfolding goodRow rowOf noRow
 no-row zero name value f = and-false (alike name [])
 no-row (suc k) name value f =
     let h : sheetLines ≤ k = above (decLt k sheetLines) in

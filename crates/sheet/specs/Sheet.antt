@@ -48,7 +48,7 @@ pub record Row : Type 0 where
   pub name : List ℕ
   pub good : List ℕ → Bool
 
-unfoldable pub rows : List Row
+abbrev pub rows : List Row
 rows =
     record { name = ascii "cid"; good = isHexOf 16 }
     ∷ record { name = ascii "pin1"; good = isHexOf 64 }

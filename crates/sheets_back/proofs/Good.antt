@@ -52,7 +52,7 @@ module _ (s : List ℕ) (e : firstBad s ≡ 0) where
   good-value i h = row-good (1 + i) s (none-bad sheetLines 1 s (omega arith) e i h)
 
   curve-known : curveKnown (sheetFixed s) ≡ true
-  unfolding sheetFixed curveOf isCurve rowOf rows
+  unfolding sheetFixed curveOf isCurve rowOf
   curve-known = go (alike _ _) (alike _ _) (good-value 4 (omega arith))
     where
       go : (a b : Bool) → leb 1 (cond a 1 (cond b 2 0)) ≡ true → (eqb (cond a 1 (cond b 2 0)) 1 || eqb (cond a 1 (cond b 2 0)) 2) ≡ true
@@ -61,11 +61,11 @@ module _ (s : List ℕ) (e : firstBad s ≡ 0) where
       go false false f = f
 
   max-known : 1 ≤ sheetFixed s .max
-  unfolding sheetFixed isMax rowOf rows
+  unfolding sheetFixed isMax rowOf
   max-known = leb-true 1 (maxOf (valueOf 6 s)) (good-value 5 (omega arith))
 
   flags-known : okFlags (sheetFlags s) ≡ true
-  unfolding sheetFlags okFlags isFlag rowOf rows
+  unfolding sheetFlags okFlags isFlag rowOf
   flags-known =
       rw (
         good-value 6 (omega arith),
@@ -98,7 +98,7 @@ none-empty (r ∷ rs) x zero = x .0
 none-empty (r ∷ rs) x (suc k) = none-empty rs (x .1) k
 
 no-empty : (k : ℕ) → rowOf k .good [] ≡ false
-unfolding rowOf rows noRow isHexOf isCvc isCurve curveOf isMax maxOf countOf numberOf plainDecimal allOf isFlag flagOf alike
+unfolding rowOf noRow isHexOf isCvc isCurve curveOf isMax maxOf countOf numberOf plainDecimal allOf isFlag flagOf alike
 no-empty k = none-empty (noRow ∷ rows) (refl, (refl, (refl, (refl, (refl, (refl, (refl, (refl, (refl, (refl, (refl, (refl, (refl, (refl, tt)))))))))))))) k
 
 tabbed : (k : ℕ) (l : List ℕ) → rowOf k .good (tailAfter 9 l) ≡ true → lengthTo 9 l < length l

@@ -17,7 +17,7 @@ use Rattle.text.proofs.LineLaws.{other, all-other, head-past, tail-past, ended-
 use Rattle.card.specs.declared.Card.{Card}
 use Rattle.card.specs.Values.{fresh}
 use Rattle.sheet.specs.Sheet.{isHexOf, isCvc, curveOf, isCurve, countOf, maxOf, isMax, flagOf, isFlag}
-use Rattle.sheet.specs.Sheet.{rows, sheetLines, rowOf, goodRow, goodLine, badFrom, firstBad}
+use Rattle.sheet.specs.Sheet.{sheetLines, rowOf, goodRow, goodLine, badFrom, firstBad}
 use Rattle.personalise.specs.Personalise.{valueOf, sheetCodes, sheetFixed, sheetFlags, sheetCard}
 use Rattle.wire.proofs.Laws.{alike-self}
 use Rattle.sheet.proofs.Laws.{bad-end}
@@ -133,7 +133,7 @@ digits-whole v h = all-other isDigit 10 refl v h
 -- EVERY LINE of a card's sheet
 module _ (c : Card) (r : InRange c) where
   flag-lines : Lines 7 (flagValues (c .face .front .flags))
-  unfolding rowOf rows allOf
+  unfolding rowOf allOf
   flag-lines =
       let g = c .face .front .flags in
       let x = r .flags in
@@ -154,7 +154,7 @@ module _ (c : Card) (r : InRange c) where
       (line7, (line8, (line9, (line10, (line11, (line12, (line13, tt)))))))
 
   lines : Lines 1 (values c)
-  unfolding rowOf rows allOf isCvc
+  unfolding rowOf allOf isCvc
   lines =
       let f = c .face .front .fixed in
       let k = c .codes in

@@ -111,7 +111,6 @@ all-short (r ∷ rs) x zero = x .0
 all-short (r ∷ rs) x (suc k) = all-short rs (x .1) k
 
 rows-short : AllShort (noRow ∷ rows)
-unfolding rows
 rows-short = (
   none-short,
   (

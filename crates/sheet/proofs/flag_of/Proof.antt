@@ -22,15 +22,11 @@ equal-requires-2 c κs = tt
 
 returns-2 : tie.Need-returns-2
 unfolding flagOf
-returns-2 c =
-    let i = c .before .before .before in
-    rw (sym (i .before .equal .ensures) ∙ i .if1 .left, sym (c .before .equal2 .ensures) ∙ c .if2 .taken)
+returns-2 c = let i = c .before .before .before in rw (sym (i .before .equal .ensures) ∙ i .if1 .left, sym (c .before .equal2 .ensures) ∙ c .if2 .taken)
 
 returns-3 : tie.Need-returns-3
 unfolding flagOf
-returns-3 c =
-    let i = c .before .before .before in
-    rw (sym (i .before .equal .ensures) ∙ i .if1 .left, sym (c .before .equal2 .ensures) ∙ c .if2 .left)
+returns-3 c = let i = c .before .before .before in rw (sym (i .before .equal .ensures) ∙ i .if1 .left, sym (c .before .equal2 .ensures) ∙ c .if2 .left)
 
 pub flag-of-spec : {M : Type 1} → statement M
 flag-of-spec =

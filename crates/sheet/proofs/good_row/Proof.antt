@@ -1,6 +1,5 @@
 use Prim.Native.Nat.{_≤_}
-use Rattle.sheet.specs.Sheet.{rows, rowOf, goodRow}
-use Rattle.sheet.proofs.Laws.{past, no-row}
+use Rattle.sheet.proofs.Laws.{on-line, past, no-row}
 use mathlib.Core.Path.{sym}
 use native.Mathlib.Omega.{arith}
 use borrow.Author.Needs.{needs}
@@ -86,56 +85,43 @@ flag-row-requires-7 : tie.Need-flag-row-requires-7
 flag-row-requires-7 c κs = tt
 
 returns : tie.Need-returns
-unfolding goodRow rowOf rows
-returns c = rw (c .before .before .match .keys1) (c .hex-row .ensures)
+returns c = on-line _ _ (c .before .before .match .keys1) (c .hex-row .ensures)
 
 returns-2 : tie.Need-returns-2
-unfolding goodRow rowOf rows
-returns-2 c = rw (c .before .before .match .keys2) (c .hex-row2 .ensures)
+returns-2 c = on-line _ _ (c .before .before .match .keys2) (c .hex-row2 .ensures)
 
 returns-3 : tie.Need-returns-3
-unfolding goodRow rowOf rows
-returns-3 c = rw (c .before .before .match .keys3) (c .hex-row3 .ensures)
+returns-3 c = on-line _ _ (c .before .before .match .keys3) (c .hex-row3 .ensures)
 
 returns-4 : tie.Need-returns-4
-unfolding goodRow rowOf rows
-returns-4 c = rw (c .before .before .match .keys4) (c .cvc-row .ensures)
+returns-4 c = on-line _ _ (c .before .before .match .keys4) (c .cvc-row .ensures)
 
 returns-5 : tie.Need-returns-5
-unfolding goodRow rowOf rows
-returns-5 c = rw (c .before .before .match .keys5) (c .curve-row .ensures)
+returns-5 c = on-line _ _ (c .before .before .match .keys5) (c .curve-row .ensures)
 
 returns-6 : tie.Need-returns-6
-unfolding goodRow rowOf rows
-returns-6 c = rw (c .before .before .match .keys6) (c .max-row .ensures)
+returns-6 c = on-line _ _ (c .before .before .match .keys6) (c .max-row .ensures)
 
 returns-7 : tie.Need-returns-7
-unfolding goodRow rowOf rows
-returns-7 c = rw (c .before .before .match .keys7) (c .flag-row .ensures)
+returns-7 c = on-line _ _ (c .before .before .match .keys7) (c .flag-row .ensures)
 
 returns-8 : tie.Need-returns-8
-unfolding goodRow rowOf rows
-returns-8 c = rw (c .before .before .match .keys8) (c .flag-row2 .ensures)
+returns-8 c = on-line _ _ (c .before .before .match .keys8) (c .flag-row2 .ensures)
 
 returns-9 : tie.Need-returns-9
-unfolding goodRow rowOf rows
-returns-9 c = rw (c .before .before .match .keys9) (c .flag-row3 .ensures)
+returns-9 c = on-line _ _ (c .before .before .match .keys9) (c .flag-row3 .ensures)
 
 returns-10 : tie.Need-returns-10
-unfolding goodRow rowOf rows
-returns-10 c = rw (c .before .before .match .keys10) (c .flag-row4 .ensures)
+returns-10 c = on-line _ _ (c .before .before .match .keys10) (c .flag-row4 .ensures)
 
 returns-11 : tie.Need-returns-11
-unfolding goodRow rowOf rows
-returns-11 c = rw (c .before .before .match .keys11) (c .flag-row5 .ensures)
+returns-11 c = on-line _ _ (c .before .before .match .keys11) (c .flag-row5 .ensures)
 
 returns-12 : tie.Need-returns-12
-unfolding goodRow rowOf rows
-returns-12 c = rw (c .before .before .match .keys12) (c .flag-row6 .ensures)
+returns-12 c = on-line _ _ (c .before .before .match .keys12) (c .flag-row6 .ensures)
 
 returns-13 : tie.Need-returns-13
-unfolding goodRow rowOf rows
-returns-13 c = rw (c .before .before .match .keys13) (c .flag-row7 .ensures)
+returns-13 c = on-line _ _ (c .before .before .match .keys13) (c .flag-row7 .ensures)
 
 returns-14 : tie.Need-returns-14
 returns-14 c =
