@@ -57,7 +57,7 @@ long-block x s = simp length-append (omega arith)
 
 pub long-issuer : (x : Issuer) → ShapeIssuer x → length (encIssuer x) ≡ issuerWidth
 unfolding encIssuer
-long-issuer x s = let b = long-block (x .block) (s .block) in simp length-append (omega arith)
+long-issuer x s = simp length-append (omega (arith, long-block (x .block) (s .block), s .signature))
 
 pub long-last : (x : Last) → length (x .signatures) ≡ lastRoom → length (encLast x) ≡ lastWidth
 unfolding encLast
@@ -66,35 +66,22 @@ long-last x s = simp length-append (omega arith)
 long-front : (x : Front) → ShapeFront x → length (encFront x) ≡ userAt - fixedAt
 unfolding encFront
 long-front x s =
-    let a = long-fixed (x .fixed) (s .fixed) in
-    let b = long-flags (x .flags) in
-    let c = long-wallet (x .wallet) in
-    let d = long-key (x .key) (s .key) in
-    let e = long-counters (x .counters) in
-    simp length-append (omega arith)
+    simp length-append
+    (omega (arith, long-fixed (x .fixed) (s .fixed), long-flags (x .flags), long-wallet (x .wallet), long-key (x .key) (s .key), long-counters (x .counters)))
 
 long-held : (x : Held) → ShapeHeld x → length (encHeld x) ≡ lastAt - userAt
 unfolding encHeld
 long-held x s =
-    let a = long-block (x .user) (s .user) in
-    let b = long-block (x .protected) (s .protected) in
-    let c = long-issuer (x .issuer) (s .issuer) in
-    simp length-append (omega arith)
+    simp length-append (omega (arith, long-block (x .user) (s .user), long-block (x .protected) (s .protected), long-issuer (x .issuer) (s .issuer)))
 
 long-face : (x : Face) → ShapeFace x → length (encFace x) ≡ imageSize - fixedAt
 unfolding encFace
 long-face x s =
-    let a = long-front (x .front) (s .front) in
-    let b = long-held (x .held) (s .held) in
-    let c = long-last (x .last) (s .last) in
-    simp length-append (omega arith)
+    simp length-append (omega (arith, long-front (x .front) (s .front), long-held (x .held) (s .held), long-last (x .last) (s .last)))
 
 pub length-encode : (c : Card) → Shape c → length (encode c) ≡ imageSize
 unfolding encode
-length-encode c s =
-    let a = long-codes (c .codes) (s .codes) in
-    let b = long-face (c .face) (s .face) in
-    simp length-append (omega arith)
+length-encode c s = simp length-append (omega (arith, long-codes (c .codes) (s .codes), long-face (c .face) (s .face)))
 
 -- WHAT IS HELD has its lengths, whatever was given
 pub held-codes-long : (a b : List ℕ) → ShapeCodes (record { pin1 = pad pinSize a; pin2 = pad pinSize b })
@@ -111,6 +98,22 @@ held-issuer-long d s n = record { block = length-pad dataRoom d; signature = len
 
 pub held-last-long : (s : List ℕ) → length (heldLast s .signatures) ≡ lastRoom
 held-last-long s = length-pad lastRoom s
+
+-- so its bytes have their width
+pub held-codes-wide : (a b : List ℕ) → length (encCodes (record { pin1 = pad pinSize a; pin2 = pad pinSize b })) ≡ codesWidth
+held-codes-wide a b = long-codes _ (held-codes-long a b)
+
+pub held-key-wide : (k : List ℕ) → length (encKey (heldKey k)) ≡ keyWidth
+held-key-wide k = long-key (heldKey k) (held-key-long k)
+
+pub held-block-wide : (d : List ℕ) → length (encBlock (heldBlock d)) ≡ blockWidth
+held-block-wide d = long-block (heldBlock d) (held-block-long d)
+
+pub held-issuer-wide : (d s : List ℕ) (n : ℕ) → length (encIssuer (heldIssuer d s n)) ≡ issuerWidth
+held-issuer-wide d s n = long-issuer (heldIssuer d s n) (held-issuer-long d s n)
+
+pub held-last-wide : (s : List ℕ) → length (encLast (heldLast s)) ≡ lastWidth
+held-last-wide s = long-last (heldLast s) (held-last-long s)
 
 -- A FACE with one group anew
 module _ (f : Face) (s : ShapeFace f) where

@@ -33,18 +33,12 @@ use Rattle.card.specs.Shape.{ShapeCodes, ShapeFixed, ShapeIssuer, ShapeFront, S
 codes-held : (x : Codes) (vs : List Val) → Is (row codes.the-type) x vs → ShapeCodes x
 codes-held x vs g =
     let f = g .1 .1 in
-    record {
-      pin1 = length-unmapped ℕ (x .pin1) pinSize (f .0 .1 .0 .1);
-      pin2 = length-unmapped ℕ (x .pin2) pinSize (f .1 .0 .1 .0 .1);
-    }
+    record { pin1 = length-unmapped ℕ (x .pin1) pinSize (f .0 .1 .0 .1); pin2 = length-unmapped ℕ (x .pin2) pinSize (f .1 .0 .1 .0 .1) }
 
 fixed-held : (x : Fixed) (vs : List Val) → Is (row fixed.the-type) x vs → ShapeFixed x
 fixed-held x vs g =
     let f = g .1 .1 in
-    record {
-      cid = length-unmapped ℕ (x .cid) cidSize (f .0 .1 .0 .1);
-      cvc = length-unmapped ℕ (x .cvc) cvcSize (f .1 .0 .1 .0 .1);
-    }
+    record { cid = length-unmapped ℕ (x .cid) cidSize (f .0 .1 .0 .1); cvc = length-unmapped ℕ (x .cvc) cvcSize (f .1 .0 .1 .0 .1) }
 
 key-held : (x : Key) (vs : List Val) → Is (row key.the-type) x vs → length (x .bytes) ≡ keyRoom
 key-held x vs g = length-unmapped ℕ (x .bytes) keyRoom (g .1 .1 .1 .0 .1 .0 .1)
@@ -55,10 +49,7 @@ block-held x vs g = length-unmapped ℕ (x .bytes) dataRoom (g .1 .1 .1 .0 .1 .0
 issuer-held : (x : Issuer) (vs : List Val) → Is (row issuer.the-type) x vs → ShapeIssuer x
 issuer-held x vs g =
     let f = g .1 .1 in
-    record {
-      block = block-held (x .block) _ (f .0);
-      signature = length-unmapped ℕ (x .signature) signatureSize (f .1 .0 .1 .0 .1);
-    }
+    record { block = block-held (x .block) _ (f .0); signature = length-unmapped ℕ (x .signature) signatureSize (f .1 .0 .1 .0 .1) }
 
 last-held : (x : Last) (vs : List Val) → Is (row last.the-type) x vs → length (x .signatures) ≡ lastRoom
 last-held x vs g = length-unmapped ℕ (x .signatures) lastRoom (g .1 .1 .1 .0 .1 .0 .1)
@@ -71,20 +62,12 @@ front-held x vs g =
 held-held : (x : Held) (vs : List Val) → Is (row held.the-type) x vs → ShapeHeld x
 held-held x vs g =
     let f = g .1 .1 in
-    record {
-      user = block-held (x .user) _ (f .0);
-      protected = block-held (x .protected) _ (f .1 .0);
-      issuer = issuer-held (x .issuer) _ (f .1 .1 .0);
-    }
+    record { user = block-held (x .user) _ (f .0); protected = block-held (x .protected) _ (f .1 .0); issuer = issuer-held (x .issuer) _ (f .1 .1 .0) }
 
 face-held : (x : Face) (vs : List Val) → Is (row face.the-type) x vs → ShapeFace x
 face-held x vs g =
     let f = g .1 .1 in
-    record {
-      front = front-held (x .front) _ (f .0);
-      held = held-held (x .held) _ (f .1 .0);
-      last = last-held (x .last) _ (f .1 .1 .0);
-    }
+    record { front = front-held (x .front) _ (f .0); held = held-held (x .held) _ (f .1 .0); last = last-held (x .last) _ (f .1 .1 .0) }
 
 pub card-held : (c : Card) (vs : List Val) → Is (row card.the-type) c vs → Shape c
 card-held c vs g =

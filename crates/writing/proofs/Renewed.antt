@@ -23,6 +23,7 @@ use Rattle.card.specs.Shape.{ShapeFace, Shape}
 use Rattle.writing.specs.Holds.{Holds}
 use Rattle.cards.proofs.Shape.{long-codes, long-fixed, long-flags, long-wallet, long-key, long-counters, long-block, long-issuer, long-last}
 use Rattle.cards.proofs.Shape.{held-codes-long, held-key-long, held-block-long, held-issuer-long, held-last-long}
+use Rattle.cards.proofs.Shape.{held-codes-wide, held-key-wide, held-block-wide, held-issuer-wide, held-last-wide}
 use Rattle.cards.proofs.Shape.{shape-with-wallet, shape-with-key, shape-with-counters, shape-with-user, shape-with-protected}
 use Rattle.cards.proofs.Shape.{shape-with-issuer, shape-with-last}
 
@@ -46,31 +47,12 @@ abbrev groups : Card → List (List ℕ)
 groups c =
     let x : Front = c .face .front in
     let y : Held = c .face .held in
-    encCodes (c .codes)
-    ∷ encFixed (x .fixed)
-    ∷ encFlags (x .flags)
-    ∷ encWallet (x .wallet)
-    ∷ encKey (x .key)
-    ∷ encCounters (x .counters)
-    ∷ encBlock (y .user)
-    ∷ encBlock (y .protected)
-    ∷ encIssuer (y .issuer)
-    ∷ encLast (c .face .last)
-    ∷ []
+    encCodes (c .codes) ∷ encFixed (x .fixed) ∷ encFlags (x .flags) ∷ encWallet (x .wallet) ∷ encKey (x .key) ∷ encCounters (x .counters)
+    ∷ encBlock (y .user) ∷ encBlock (y .protected) ∷ encIssuer (y .issuer) ∷ encLast (c .face .last) ∷ []
 
 abbrev widths : List ℕ
 widths =
-    codesWidth
-    ∷ fixedWidth
-    ∷ flagsWidth
-    ∷ walletWidth
-    ∷ keyWidth
-    ∷ countersWidth
-    ∷ blockWidth
-    ∷ blockWidth
-    ∷ issuerWidth
-    ∷ lastWidth
-    ∷ []
+    codesWidth ∷ fixedWidth ∷ flagsWidth ∷ walletWidth ∷ keyWidth ∷ countersWidth ∷ blockWidth ∷ blockWidth ∷ issuerWidth ∷ lastWidth ∷ []
 
 abbrev lengths : List (List ℕ) → List ℕ
 lengths [] = []
@@ -150,61 +132,32 @@ refaced :
     → length v ≡ getD widths n 0 → Wrote d (total (take n widths)) v d′ r → Holds c rest d → Holds (faced f c) rest d′
 refaced {c} n h f s e l w x = turned n h (faced f c) (record { codes = x .shape .codes; face = s }) e l w x
 
-module _ {c : Card} {rest d : List ℕ} where
+module _ {c : Card} {rest d d′ : List ℕ} {r : ℕ} where
   pub anew-codes :
-      (a b : List ℕ) {d′ : List ℕ} {r : ℕ} → Wrote d codesAt (encCodes (record { pin1 = pad pinSize a; pin2 = pad pinSize b })) d′ r
-      → Holds c rest d
+      (a b : List ℕ) → Wrote d codesAt (encCodes (record { pin1 = pad pinSize a; pin2 = pad pinSize b })) d′ r → Holds c rest d
       → Holds (record { face = c .face; codes = record { pin1 = pad pinSize a; pin2 = pad pinSize b } }) rest d′
-  anew-codes a b w x =
-      let s = held-codes-long a b in
-      turned 0 (lit< tt) _ (record { codes = s; face = x .shape .face }) refl (long-codes _ s) w x
+  anew-codes a b w x = turned 0 (lit< tt) _ (record { codes = held-codes-long a b; face = x .shape .face }) refl (held-codes-wide a b) w x
 
-  pub anew-wallet :
-      (y : Wallet) {d′ : List ℕ} {r : ℕ} → Wrote d walletAt (encWallet y) d′ r → Holds c rest d
-      → Holds (faced (withWallet y (c .face)) c) rest d′
+  pub anew-wallet : (y : Wallet) → Wrote d walletAt (encWallet y) d′ r → Holds c rest d → Holds (faced (withWallet y (c .face)) c) rest d′
   anew-wallet y w x = refaced 3 (lit< tt) _ (shape-with-wallet (c .face) (x .shape .face) y) refl (long-wallet y) w x
 
-  pub anew-key :
-      (k : List ℕ) {d′ : List ℕ} {r : ℕ} → Wrote d keyAt (encKey (heldKey k)) d′ r → Holds c rest d
-      → Holds (faced (withKey (heldKey k) (c .face)) c) rest d′
-  anew-key k w x =
-      let y = heldKey k in
-      let l = held-key-long k in
-      refaced 4 (lit< tt) _ (shape-with-key (c .face) (x .shape .face) y l) refl (long-key y l) w x
+  pub anew-key : (k : List ℕ) → Wrote d keyAt (encKey (heldKey k)) d′ r → Holds c rest d → Holds (faced (withKey (heldKey k) (c .face)) c) rest d′
+  anew-key k w x = refaced 4 (lit< tt) _ (shape-with-key (c .face) (x .shape .face) _ (held-key-long k)) refl (held-key-wide k) w x
 
-  pub anew-counters :
-      (y : Counters) {d′ : List ℕ} {r : ℕ} → Wrote d countersAt (encCounters y) d′ r → Holds c rest d
-      → Holds (faced (withCounters y (c .face)) c) rest d′
+  pub anew-counters : (y : Counters) → Wrote d countersAt (encCounters y) d′ r → Holds c rest d → Holds (faced (withCounters y (c .face)) c) rest d′
   anew-counters y w x = refaced 5 (lit< tt) _ (shape-with-counters (c .face) (x .shape .face) y) refl (long-counters y) w x
 
-  pub anew-user :
-      (b : List ℕ) {d′ : List ℕ} {r : ℕ} → Wrote d userAt (encBlock (heldBlock b)) d′ r → Holds c rest d
-      → Holds (faced (withUser (heldBlock b) (c .face)) c) rest d′
-  anew-user b w x =
-      let y = heldBlock b in
-      let l = held-block-long b in
-      refaced 6 (lit< tt) _ (shape-with-user (c .face) (x .shape .face) y l) refl (long-block y l) w x
+  pub anew-user : (b : List ℕ) → Wrote d userAt (encBlock (heldBlock b)) d′ r → Holds c rest d → Holds (faced (withUser (heldBlock b) (c .face)) c) rest d′
+  anew-user b w x = refaced 6 (lit< tt) _ (shape-with-user (c .face) (x .shape .face) _ (held-block-long b)) refl (held-block-wide b) w x
 
   pub anew-protected :
-      (b : List ℕ) {d′ : List ℕ} {r : ℕ} → Wrote d protectedAt (encBlock (heldBlock b)) d′ r → Holds c rest d
-      → Holds (faced (withProtected (heldBlock b) (c .face)) c) rest d′
-  anew-protected b w x =
-      let y = heldBlock b in
-      let l = held-block-long b in
-      refaced 7 (lit< tt) _ (shape-with-protected (c .face) (x .shape .face) y l) refl (long-block y l) w x
+      (b : List ℕ) → Wrote d protectedAt (encBlock (heldBlock b)) d′ r → Holds c rest d → Holds (faced (withProtected (heldBlock b) (c .face)) c) rest d′
+  anew-protected b w x = refaced 7 (lit< tt) _ (shape-with-protected (c .face) (x .shape .face) _ (held-block-long b)) refl (held-block-wide b) w x
 
   pub anew-issuer :
-      (b s : List ℕ) (n : ℕ) {d′ : List ℕ} {r : ℕ} → Wrote d issuerAt (encIssuer (heldIssuer b s n)) d′ r → Holds c rest d
+      (b s : List ℕ) (n : ℕ) → Wrote d issuerAt (encIssuer (heldIssuer b s n)) d′ r → Holds c rest d
       → Holds (faced (withIssuer (heldIssuer b s n) (c .face)) c) rest d′
-  anew-issuer b s n w x =
-      let y = heldIssuer b s n in
-      let l = held-issuer-long b s n in
-      refaced 8 (lit< tt) _ (shape-with-issuer (c .face) (x .shape .face) y l) refl (long-issuer y l) w x
+  anew-issuer b s n w x = refaced 8 (lit< tt) _ (shape-with-issuer (c .face) (x .shape .face) _ (held-issuer-long b s n)) refl (held-issuer-wide b s n) w x
 
-  pub anew-last :
-      (s : List ℕ) {d′ : List ℕ} {r : ℕ} → Wrote d lastAt (encLast (heldLast s)) d′ r → Holds c rest d
-      → Holds (faced (withLast (heldLast s) (c .face)) c) rest d′
-  anew-last s w x =
-      let y = heldLast s in
-      let l = held-last-long s in
-      refaced 9 (lit< tt) _ (shape-with-last (c .face) (x .shape .face) y l) refl (long-last y l) w x
+  pub anew-last : (s : List ℕ) → Wrote d lastAt (encLast (heldLast s)) d′ r → Holds c rest d → Holds (faced (withLast (heldLast s) (c .face)) c) rest d′
+  anew-last s w x = refaced 9 (lit< tt) _ (shape-with-last (c .face) (x .shape .face) _ (held-last-long s)) refl (held-last-wide s) w x

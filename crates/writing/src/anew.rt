@@ -6,7 +6,8 @@ use card::Key;
 use card::Last;
 use card::Wallet;
 use card::layout;
-ghost use Rattle.wire.specs.Wire.{pad, Runs, Wrote};
+ghost use mathlib.Core.List.{_++_};
+ghost use Rattle.wire.specs.Wire.{be1, pad, Runs, Wrote};
 ghost use Rattle.card.specs.Layout.{pinSize, codesAt, walletAt, keyAt, countersAt, userAt, protectedAt, issuerAt, lastAt};
 ghost use Rattle.card.specs.Values.{heldKey, heldBlock, heldIssuer, heldLast};
 ghost use Rattle.card.specs.Image.{encCodes, encWallet, encKey, encCounters, encBlock, encIssuer, encLast};
@@ -33,12 +34,19 @@ pub fn wallet(img: &mut [u8], x: Wallet) -> usize
     layout::WALLET_AT
 }
 
+// Bytes with their size before them, in a room of their own.
+fn put_sized(img: &mut [u8], at: usize, size: u8, room: usize, held: &[u8]) -> usize
+    ensures { λ r. ⌜ Runs (now (img .entry)) at (be1 size ++ pad room (now (held .entry))) (now (img .exit)) r ⌝ }
+{
+    let a = wire::put8(img, at, size);
+    wire::put_padded(img, a, room, held)
+}
+
 pub fn key(img: &mut [u8], key: &[u8]) -> usize
     ensures { λ r. ⌜ Wrote (now (img .entry)) keyAt (encKey (heldKey (now (key .entry)))) (now (img .exit)) r ⌝ }
 {
     if wire::has_room(img.len(), layout::KEY_AT, layout::KEY_WIDTH) {
-        let a = wire::put8(img, layout::KEY_AT, (key.len() % 256) as u8);
-        return wire::put_padded(img, a, Key::ROOM, key);
+        return put_sized(img, layout::KEY_AT, (key.len() % 256) as u8, Key::ROOM, key);
     }
     layout::KEY_AT
 }
@@ -92,12 +100,8 @@ pub fn last(img: &mut [u8], signatures: &[u8]) -> usize
     ensures { λ r. ⌜ Wrote (now (img .entry)) lastAt (encLast (heldLast (now (signatures .entry)))) (now (img .exit)) r ⌝ }
 {
     if wire::has_room(img.len(), layout::LAST_AT, layout::LAST_WIDTH) {
-        let a = wire::put8(
-            img,
-            layout::LAST_AT,
-            (signatures.len() / Last::SIGNATURE_SIZE % 256) as u8,
-        );
-        return wire::put_padded(img, a, Last::ROOM, signatures);
+        let count = (signatures.len() / Last::SIGNATURE_SIZE % 256) as u8;
+        return put_sized(img, layout::LAST_AT, count, Last::ROOM, signatures);
     }
     layout::LAST_AT
 }

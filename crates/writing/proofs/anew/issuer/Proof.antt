@@ -1,8 +1,7 @@
 use Rattle.card.specs.Layout.{issuerWidth}
 use Rattle.wire.proofs.Laws.{runs, then}
-use Rattle.card.specs.Values.{heldIssuer}
 use Rattle.card.specs.Image.{encIssuer}
-use Rattle.cards.proofs.Shape.{held-issuer-long, long-issuer}
+use Rattle.cards.proofs.Shape.{held-issuer-wide}
 use Rattle.writing.proofs.Laws.{guarded, barred}
 use borrow.Author.Needs.{needs}
 use Rattle.writing.proofs.anew.issuer.Statement.{statement}
@@ -31,15 +30,13 @@ returns c =
     let w1 = w2 .before .before .before .before in
     let t = w1 .before .before in
     let a = t .before .before .before .before .before .args in
-    let l = long-issuer (heldIssuer (a .held .now) (a .signature .now) (a .counter)) (held-issuer-long (a .held .now) (a .signature .now) (a .counter)) in
-    guarded issuerWidth (t .before .has-room .ensures) (t .if1 .taken)
-    l (then (then (w1 .put-block .ensures) (runs (w2 .put-padded .ensures))) (runs (w3 .put32 .ensures)))
+    guarded issuerWidth (t .before .has-room .ensures) (t .if1 .taken) (held-issuer-wide (a .held .now) (a .signature .now) (a .counter))
+    (then (then (w1 .put-block .ensures) (runs (w2 .put-padded .ensures))) (runs (w3 .put32 .ensures)))
 
 returns-2 : tie.Need-returns-2
 returns-2 c =
     let a = c .before .before .before .before .before .args in
-    let l = long-issuer (heldIssuer (a .held .now) (a .signature .now) (a .counter)) (held-issuer-long (a .held .now) (a .signature .now) (a .counter)) in
-    barred issuerWidth (c .before .has-room .ensures) (c .if1 .left) l
+    barred issuerWidth (c .before .has-room .ensures) (c .if1 .left) (held-issuer-wide (a .held .now) (a .signature .now) (a .counter))
 
 pub issuer-spec : {M : Type 1} → statement M
 issuer-spec =

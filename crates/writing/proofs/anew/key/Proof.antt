@@ -1,8 +1,6 @@
 use Rattle.card.specs.Layout.{keyWidth}
-use Rattle.wire.proofs.Laws.{runs, then}
-use Rattle.card.specs.Values.{heldKey}
 use Rattle.card.specs.Image.{encKey}
-use Rattle.cards.proofs.Shape.{held-key-long, long-key}
+use Rattle.cards.proofs.Shape.{held-key-wide}
 use Rattle.writing.proofs.Laws.{guarded, barred}
 use borrow.Author.Needs.{needs}
 use Rattle.writing.proofs.anew.key.Statement.{statement}
@@ -11,14 +9,11 @@ use Rattle.writing.proofs.anew.key.Tie as tie
 has-room-requires : tie.Need-has-room-requires
 has-room-requires c κs = tt
 
-cast-put8 : tie.Need-cast-put8
-cast-put8 c = search needs
+cast-put-sized : tie.Need-cast-put-sized
+cast-put-sized c = search needs
 
-put8-requires : tie.Need-put8-requires
-put8-requires c κs = tt
-
-put-padded-requires : tie.Need-put-padded-requires
-put-padded-requires c κs = tt
+put-sized-requires : tie.Need-put-sized-requires
+put-sized-requires c κs = tt
 
 same-length : tie.Need-same-length
 same-length c = search needs
@@ -26,26 +21,14 @@ same-length c = search needs
 returns : tie.Need-returns
 unfolding encKey
 returns c =
-    let w2 = c .before .before in
-    let w1 = w2 .before .before .before .before in
-    let t = w1 .before .before in
-    let x = t .before .before .before .before .args .key in
-    guarded keyWidth (t .before .has-room .ensures) (t .if1 .taken)
-    (long-key (heldKey (x .now)) (held-key-long (x .now))) (then (runs (w1 .put8 .ensures)) (runs (w2 .put-padded .ensures)))
+    let w = c .before .before in
+    let t = w .before .before in
+    guarded keyWidth (t .before .has-room .ensures) (t .if1 .taken) (held-key-wide (t .before .before .before .before .args .key .now)) (w .put-sized .ensures)
 
 returns-2 : tie.Need-returns-2
-returns-2 c =
-    let x = c .before .before .before .before .args .key in
-    barred keyWidth (c .before .has-room .ensures) (c .if1 .left) (long-key (heldKey (x .now)) (held-key-long (x .now)))
+returns-2 c = barred keyWidth (c .before .has-room .ensures) (c .if1 .left) (held-key-wide (c .before .before .before .before .args .key .now))
 
 pub key-spec : {M : Type 1} → statement M
 key-spec =
     tie.close
-    (tie.spec
-    has-room-requires
-    cast-put8
-    put8-requires
-    put-padded-requires
-    same-length
-    returns
-    returns-2)
+    (tie.spec has-room-requires cast-put-sized put-sized-requires same-length returns returns-2)

@@ -1,6 +1,4 @@
-use native.Mathlib.Omega.{arith}
-use lib.ListN.{length-append}
-use Rattle.wire.proofs.Laws.{runs, then}
+use Rattle.writing.proofs.Laws.{array, plus}
 use Rattle.card.specs.Image.{encCodes}
 use borrow.Author.Needs.{needs}
 use Rattle.writing.proofs.whole.write_codes.Statement.{statement}
@@ -19,10 +17,8 @@ returns : tie.Need-returns
 unfolding encCodes
 returns c =
     let w2 = c .before .before in
-    let w1 = w2 .before .before .before .before .before in (
-      then (runs (w1 .give32 .ensures .0)) (runs (w2 .give322 .ensures .0)),
-      simp length-append (omega (arith, w1 .give32 .ensures .1, w2 .give322 .ensures .1)),
-    )
+    let w1 = w2 .before .before .before .before .before in
+    plus (array (w1 .give32 .ensures)) (array (w2 .give322 .ensures))
 
 pub write-codes-spec : {M : Type 1} → statement M
 write-codes-spec = tie.close (tie.spec give32-requires give32-requires-2 same-length returns)

@@ -1,6 +1,4 @@
-use native.Mathlib.Omega.{arith}
-use lib.ListN.{length-append}
-use Rattle.wire.proofs.Laws.{runs, then}
+use Rattle.writing.proofs.Laws.{number, plus}
 use Rattle.card.specs.Image.{encCounters}
 use borrow.Author.Needs.{needs}
 use Rattle.writing.proofs.whole.write_counters.Statement.{statement}
@@ -24,13 +22,10 @@ same-length c = search needs
 returns : tie.Need-returns
 unfolding encCounters
 returns c =
-    let w4 = c .before .before in
-    let w3 = w4 .before .before .before .before in
+    let w3 = c .before .before .before .before .before .before in
     let w2 = w3 .before .before .before .before in
-    let w1 = w2 .before .before .before .before in (
-      then (then (then (runs (w1 .put32 .ensures)) (runs (w2 .put16 .ensures))) (runs (w3 .put322 .ensures))) (runs (w4 .put323 .ensures)),
-      simp length-append (omega arith),
-    )
+    let w1 = w2 .before .before .before .before in
+    plus (plus (plus (number (w1 .put32 .ensures)) (number (w2 .put16 .ensures))) (number (w3 .put322 .ensures))) (number (c .before .before .put323 .ensures))
 
 pub write-counters-spec : {M : Type 1} → statement M
 write-counters-spec =

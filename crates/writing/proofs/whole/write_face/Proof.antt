@@ -1,6 +1,4 @@
-use native.Mathlib.Omega.{arith}
-use lib.ListN.{length-append}
-use Rattle.wire.proofs.Laws.{then}
+use Rattle.writing.proofs.Laws.{plus}
 use Rattle.card.specs.Image.{encFace}
 use borrow.Author.Needs.{needs}
 use Rattle.writing.proofs.whole.write_face.Statement.{statement}
@@ -24,10 +22,7 @@ returns c =
     let w3 = c .before .before in
     let w2 = w3 .before .before .before .before .before in
     let w1 = w2 .before .before .before .before .before in
-    let r1 = w1 .write-front .ensures in
-    let r2 = w2 .write-held .ensures in
-    let r3 = w3 .write-last .ensures in
-    (then (then (r1 .0) (r2 .0)) (r3 .0), simp length-append (omega (arith, r1 .1, r2 .1, r3 .1)))
+    plus (plus (w1 .write-front .ensures) (w2 .write-held .ensures)) (w3 .write-last .ensures)
 
 pub write-face-spec : {M : Type 1} → statement M
 write-face-spec = tie.close (tie.spec write-front-requires write-held-requires write-last-requires same-length returns)

@@ -1,6 +1,4 @@
-use native.Mathlib.Omega.{arith}
-use lib.ListN.{length-append}
-use Rattle.wire.proofs.Laws.{runs, then}
+use Rattle.writing.proofs.Laws.{number, array, plus}
 use Rattle.card.specs.Image.{encFixed}
 use borrow.Author.Needs.{needs}
 use Rattle.writing.proofs.whole.write_fixed.Statement.{statement}
@@ -27,10 +25,8 @@ returns c =
     let w4 = c .before .before in
     let w3 = w4 .before .before .before .before in
     let w2 = w3 .before .before .before .before in
-    let w1 = w2 .before .before .before .before .before in (
-      then (then (then (runs (w1 .give8 .ensures .0)) (runs (w2 .give3 .ensures .0))) (runs (w3 .put8 .ensures))) (runs (w4 .put32 .ensures)),
-      simp length-append (omega (arith, w1 .give8 .ensures .1, w2 .give3 .ensures .1)),
-    )
+    let w1 = w2 .before .before .before .before .before in
+    plus (plus (plus (array (w1 .give8 .ensures)) (array (w2 .give3 .ensures))) (number (w3 .put8 .ensures))) (number (w4 .put32 .ensures))
 
 pub write-fixed-spec : {M : Type 1} → statement M
 write-fixed-spec =

@@ -1,6 +1,4 @@
-use native.Mathlib.Omega.{arith}
-use lib.ListN.{length-append}
-use Rattle.wire.proofs.Laws.{then}
+use Rattle.writing.proofs.Laws.{plus}
 use Rattle.card.specs.Image.{encFront}
 use borrow.Author.Needs.{needs}
 use Rattle.writing.proofs.whole.write_front.Statement.{statement}
@@ -32,14 +30,8 @@ returns c =
     let w3 = w4 .before .before .before .before .before in
     let w2 = w3 .before .before .before .before .before in
     let w1 = w2 .before .before .before .before .before in
-    let r1 = w1 .write-fixed .ensures in
-    let r2 = w2 .write-flags .ensures in
-    let r3 = w3 .write-wallet .ensures in
-    let r4 = w4 .write-key .ensures in
-    let r5 = w5 .write-counters .ensures in (
-      then (then (then (then (r1 .0) (r2 .0)) (r3 .0)) (r4 .0)) (r5 .0),
-      simp length-append (omega (arith, r1 .1, r2 .1, r3 .1, r4 .1, r5 .1)),
-    )
+    plus (plus (plus (plus (w1 .write-fixed .ensures) (w2 .write-flags .ensures)) (w3 .write-wallet .ensures)) (w4 .write-key .ensures))
+    (w5 .write-counters .ensures)
 
 pub write-front-spec : {M : Type 1} → statement M
 write-front-spec =

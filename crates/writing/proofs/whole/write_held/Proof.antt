@@ -1,6 +1,4 @@
-use native.Mathlib.Omega.{arith}
-use lib.ListN.{length-append}
-use Rattle.wire.proofs.Laws.{then}
+use Rattle.writing.proofs.Laws.{plus}
 use Rattle.card.specs.Image.{encHeld}
 use borrow.Author.Needs.{needs}
 use Rattle.writing.proofs.whole.write_held.Statement.{statement}
@@ -24,10 +22,7 @@ returns c =
     let w3 = c .before .before in
     let w2 = w3 .before .before .before .before .before in
     let w1 = w2 .before .before .before .before .before in
-    let r1 = w1 .write-block .ensures in
-    let r2 = w2 .write-block2 .ensures in
-    let r3 = w3 .write-issuer .ensures in
-    (then (then (r1 .0) (r2 .0)) (r3 .0), simp length-append (omega (arith, r1 .1, r2 .1, r3 .1)))
+    plus (plus (w1 .write-block .ensures) (w2 .write-block2 .ensures)) (w3 .write-issuer .ensures)
 
 pub write-held-spec : {M : Type 1} → statement M
 write-held-spec = tie.close (tie.spec write-block-requires write-block-requires-2 write-issuer-requires same-length returns)

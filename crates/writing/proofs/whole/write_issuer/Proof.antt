@@ -1,6 +1,4 @@
-use native.Mathlib.Omega.{arith}
-use lib.ListN.{length-append}
-use Rattle.wire.proofs.Laws.{runs, then}
+use Rattle.writing.proofs.Laws.{number, array, plus}
 use Rattle.card.specs.Image.{encIssuer}
 use borrow.Author.Needs.{needs}
 use Rattle.writing.proofs.whole.write_issuer.Statement.{statement}
@@ -23,10 +21,8 @@ unfolding encIssuer
 returns c =
     let w3 = c .before .before in
     let w2 = w3 .before .before .before .before in
-    let w1 = w2 .before .before .before .before .before in (
-      then (then (w1 .write-block .ensures .0) (runs (w2 .give64 .ensures .0))) (runs (w3 .put32 .ensures)),
-      simp length-append (omega (arith, w1 .write-block .ensures .1, w2 .give64 .ensures .1)),
-    )
+    let w1 = w2 .before .before .before .before .before in
+    plus (plus (w1 .write-block .ensures) (array (w2 .give64 .ensures))) (number (w3 .put32 .ensures))
 
 pub write-issuer-spec : {M : Type 1} → statement M
 write-issuer-spec =
