@@ -30,11 +30,10 @@ get32-requires-3 c κs = tt
 returns : tie.Need-returns
 unfolding decode
 returns c =
-    let w4 = c in
-    let w3 = w4 .before in
+    let w3 = c .before in
     let w2 = w3 .before in
     let w1 = w2 .before in
-    λ i. record { checks = w1 .get32 .ensures i; validations = w2 .get16 .ensures i; user = w3 .get322 .ensures i; protected = w4 .get323 .ensures i }
+    λ i. record { checks = w1 .get32 .ensures i; validations = w2 .get16 .ensures i; user = w3 .get322 .ensures i; protected = c .get323 .ensures i }
 
 pub counters-spec : {M : Type 1} → statement M
 counters-spec =

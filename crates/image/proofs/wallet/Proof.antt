@@ -33,11 +33,10 @@ get32-requires-2 c κs = tt
 returns : tie.Need-returns
 unfolding decode
 returns c =
-    let w4 = c in
-    let w3 = w4 .before in
+    let w3 = c .before in
     let w2 = w3 .before in
     let w1 = w2 .before in
-    λ i. record { status = w1 .get8 .ensures i; number = w2 .get16 .ensures i; remaining = w3 .get32 .ensures i; signed = w4 .get322 .ensures i }
+    λ i. record { status = w1 .get8 .ensures i; number = w2 .get16 .ensures i; remaining = w3 .get32 .ensures i; signed = c .get322 .ensures i }
 
 pub wallet-spec : {M : Type 1} → statement M
 wallet-spec =

@@ -41,26 +41,19 @@ both-requires-3 c κs = tt
 returns : tie.Need-returns
 unfolding decode okFront
 returns c =
-    let b2 = c .before in
-    let f = b2 .before in
-    let r = f .before in
-    let m = r .before in
-    let b1 = m .before in
-    let s = b1 .before in
-    let k = s .before in
-    let v = k .before in
-    let w = v .before in
-    let g = w .before in
+    let r = c .before .before .before in
+    let k = r .before .before .before .before in
+    let curve = k .before .curve .ensures in
+    let wallet = k .before .before .wallet .ensures in
+    let g = k .before .before .before in
+    let flags = g .flags .ensures in
     let l = g .before .before .args .img .now in
     let fixed = decode l .face .front .fixed in
-    let curve = v .curve .ensures in
-    let wallet = w .wallet .ensures in
-    let flags = g .flags .ensures in
-    both-of (c .both3 .ensures) (f .flags-ok .ensures ∙ ap okFlags flags)
-    (both-of (b2 .both2 .ensures)
+    both-of (c .both3 .ensures) (c .before .before .flags-ok .ensures ∙ ap okFlags flags)
+    (both-of (c .before .both2 .ensures)
     (r .ranges-ok .ensures (fixed .cid) (fixed .cvc)
-    ∙ (λ i. okRanges (record { cid = fixed .cid; cvc = fixed .cvc; curve = curve i; max = m .max .ensures i }) (wallet i)))
-    (both-of (b1 .both .ensures) (s .state-ok .ensures ∙ ap₂ okState flags wallet)
+    ∙ (λ i. okRanges (record { cid = fixed .cid; cvc = fixed .cvc; curve = curve i; max = r .before .max .ensures i }) (wallet i)))
+    (both-of (r .before .before .both .ensures) (r .before .before .before .state-ok .ensures ∙ ap₂ okState flags wallet)
     (k .key-ok .ensures ∙ (λ i. okKey (curve i) (wallet i .status) (decKey l)))))
 
 pub front-ok-spec : {M : Type 1} → statement M

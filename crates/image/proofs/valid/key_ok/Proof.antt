@@ -49,20 +49,16 @@ both-requires-2 c κs = tt
 returns : tie.Need-returns
 unfolding okKey
 returns c =
-    let b = c .before in
-    let z = b .before in
-    let k = z .before in
-    let e = k .before in
-    let f = e .before in
-    let u = f .before in
-    let p = u .before in
-    let g = p .before in
-    both-of (c .both2 .ensures) (ap₂ eqb (g .get8 .ensures) (k .key-size .ensures))
-    (both-of (b .both .ensures)
+    let e = c .before .before .before .before in
+    let p = e .before .before .before in
+    let size = p .before .get8 .ensures in
+    let bytes = p .part .ensures in
+    both-of (c .both2 .ensures) (ap₂ eqb size (c .before .before .before .key-size .ensures))
+    (both-of (c .before .both .ensures)
     (either-of (e .either .ensures)
-    (u .unless .ensures ∙ ap (λ n. not (eqb n keyRoom)) (g .get8 .ensures))
-    (ap (λ n. eqb n 4) (f .get82 .ensures ∙ ap (λ x. getD x 0 0) (p .part .ensures))))
-    (z .zero-from .ensures ∙ ap₂ (λ n x. allZero (drop n x)) (g .get8 .ensures) (p .part .ensures)))
+    (e .before .before .unless .ensures ∙ ap (λ n. not (eqb n keyRoom)) size)
+    (ap (λ n. eqb n 4) (e .before .get82 .ensures ∙ ap (λ x. getD x 0 0) bytes)))
+    (c .before .before .zero-from .ensures ∙ ap₂ (λ n x. allZero (drop n x)) size bytes))
 
 pub key-ok-spec : {M : Type 1} → statement M
 key-ok-spec =
