@@ -1,3 +1,7 @@
+use mathlib.Core.Path.{ap, _∙_}
+use mathlib.Core.Bool.{not}
+use Rattle.image.proofs.Laws.{either-of}
+use Rattle.manual.specs.Storage.{isData}
 use Rattle.checks.proofs.block_sent.Statement.{statement}
 use Rattle.checks.proofs.block_sent.Tie as tie
 
@@ -18,12 +22,9 @@ either-requires c κs = tt
 
 returns : tie.Need-returns
 returns c =
-    rw (
-      c .before .is-data .ensures,
-      c .before .before .value .ensures,
-      c .before .before .before .unless .ensures,
-      c .before .before .before .before .has .ensures,
-    ) at (c .either .ensures)
+    let u = c .before .before .before in
+    either-of (c .either .ensures) (u .unless .ensures ∙ ap not (u .before .has .ensures))
+    (c .before .is-data .ensures ∙ ap isData (c .before .before .value .ensures))
 
 pub block-sent-spec : {M : Type 1} → statement M
 block-sent-spec =

@@ -1,3 +1,7 @@
+use mathlib.Core.Path.{ap, ap₂, _∙_}
+use mathlib.Core.Bool.{not}
+use lib.Dec.{ltb}
+use Rattle.image.proofs.Laws.{either-of}
 use Rattle.checks.proofs.issuer_conditions.Statement.{statement}
 use Rattle.checks.proofs.issuer_conditions.Tie as tie
 
@@ -18,12 +22,9 @@ either-requires c κs = tt
 
 returns : tie.Need-returns
 returns c =
-    rw (
-      c .before .sent-counter .ensures,
-      c .before .before .note-counter .ensures,
-      c .before .before .before .unless .ensures,
-      c .before .before .before .before .is-guarded .ensures,
-    ) at (c .either .ensures)
+    let u = c .before .before .before in
+    either-of (c .either .ensures) (u .unless .ensures ∙ ap not (u .before .is-guarded .ensures))
+    (ap₂ ltb (c .before .before .note-counter .ensures) (c .before .sent-counter .ensures))
 
 pub issuer-conditions-spec : {M : Type 1} → statement M
 issuer-conditions-spec =

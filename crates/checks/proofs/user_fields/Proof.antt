@@ -1,3 +1,4 @@
+use Rattle.image.proofs.Laws.{both-of}
 use Rattle.checks.proofs.user_fields.Statement.{statement}
 use Rattle.checks.proofs.user_fields.Tie as tie
 
@@ -30,16 +31,12 @@ both-requires-4 c κs = tt
 
 returns : tie.Need-returns
 returns c =
-    rw (
-      c .before .both3 .ensures,
-      c .before .before .any-sent .ensures,
-      c .before .before .before .both2 .ensures,
-      c .before .before .before .before .number-sent2 .ensures,
-      c .before .before .before .before .before .number-sent .ensures,
-      c .before .before .before .before .before .before .both .ensures,
-      c .before .before .before .before .before .before .before .block-sent2 .ensures,
-      c .before .before .before .before .before .before .before .before .block-sent .ensures,
-    ) at (c .both4 .ensures)
+    let n = c .before .before .before in
+    let b = n .before .before .before in
+    both-of (c .both4 .ensures) (c .before .before .any-sent .ensures)
+    (both-of (c .before .both3 .ensures)
+    (both-of (b .both .ensures) (b .before .before .block-sent .ensures) (b .before .block-sent2 .ensures))
+    (both-of (n .both2 .ensures) (n .before .before .number-sent .ensures) (n .before .number-sent2 .ensures)))
 
 pub user-fields-spec : {M : Type 1} → statement M
 user-fields-spec =
