@@ -1,6 +1,5 @@
 use mathlib.Core.Path.{refl, sym, _∙_}
 use Rattle.answers.proofs.Laws.{none, more, exactly-shaped}
-use Rattle.manual.specs.Checking.{checkWallet}
 use borrow.Author.Needs.{needs}
 use Rattle.answers.proofs.check_answers.Statement.{statement}
 use Rattle.answers.proofs.check_answers.Tie as tie

@@ -1,6 +1,3 @@
-use Rattle.manual.specs.Wallet.{readCard, createWallet, setPin, sign, purgeWallet}
-use Rattle.manual.specs.Checking.{checkWallet, verifyCard, validateCard}
-use Rattle.manual.specs.Storage.{readUserData, writeUserData, writeIssuerData, readIssuerData}
 use borrow.Author.Needs.{needs}
 use Rattle.answers.proofs.is_confirmed.Statement.{statement}
 use Rattle.answers.proofs.is_confirmed.Tie as tie
@@ -45,42 +42,40 @@ enum-told-12 : tie.Need-enum-told-12
 enum-told-12 c = search needs
 
 returns : tie.Need-returns
-returns c = rw (c .enum-told .given .1)
+returns c = search needs
 
 returns-2 : tie.Need-returns-2
-returns-2 c = rw (c .enum-told2 .given .1)
+returns-2 c = search needs
 
 returns-3 : tie.Need-returns-3
-returns-3 c = rw (c .enum-told3 .given .1)
+returns-3 c = search needs
 
 returns-4 : tie.Need-returns-4
-returns-4 c = rw (c .enum-told4 .given .1)
+returns-4 c = search needs
 
 returns-5 : tie.Need-returns-5
-returns-5 c = rw (c .enum-told5 .given .1)
+returns-5 c = search needs
 
 returns-6 : tie.Need-returns-6
-returns-6 c = rw (c .enum-told6 .given .1)
+returns-6 c = search needs
 
 returns-7 : tie.Need-returns-7
-returns-7 c = rw (c .enum-told7 .given .1)
+returns-7 c = search needs
 
 returns-8 : tie.Need-returns-8
-returns-8 c = rw (c .enum-told8 .given .1)
+returns-8 c = search needs
 
 returns-9 : tie.Need-returns-9
-returns-9 c = rw (c .enum-told9 .given .1)
+returns-9 c = search needs
 
 returns-10 : tie.Need-returns-10
-returns-10 c = rw (c .enum-told10 .given .1)
+returns-10 c = search needs
 
 returns-11 : tie.Need-returns-11
-returns-11 c =
-    let c1 = c .before in
-    rw (c1 .enum-told11 .given .1, c .get8 .ensures)
+returns-11 c = rw (c .before .enum-told11 .given .1, c .get8 .ensures)
 
 returns-12 : tie.Need-returns-12
-returns-12 c = rw (c .enum-told12 .given .1)
+returns-12 c = search needs
 
 pub is-confirmed-spec : {M : Type 1} → statement M
 is-confirmed-spec =

@@ -3,7 +3,6 @@ use lib.ListN.{length}
 use mathlib.Core.Path.{sym, _∙_}
 use Rattle.answers.proofs.Laws.{exactly-shaped, hashes-signed, by-division}
 use Rattle.request.proofs.Laws.{asks-new, asks-again}
-use Rattle.manual.specs.Wallet.{sign}
 use borrow.Author.Needs.{needs}
 use Rattle.answers.proofs.sign_answers.Statement.{statement}
 use Rattle.answers.proofs.sign_answers.Tie as tie
