@@ -11,19 +11,13 @@ value-requires : tie.Need-value-requires
 value-requires c κs = tt
 
 returns : tie.Need-returns
-returns c =
-    let c1 = c .before in
-    let c2 = c1 .before .before in
-    rw (← c2 .flags .ensures) (rw (eq-eqb _ _ (c1 .if1 .taken)) (c .value .ensures))
+returns c = rw (← c .before .before .before .flags .ensures) (rw (eq-eqb _ _ (c .before .if1 .taken)) (c .value .ensures))
 
 part-requires : tie.Need-part-requires
 part-requires c κs = tt
 
 returns-2 : tie.Need-returns-2
-returns-2 c =
-    let c1 = c .before in
-    let c2 = c1 .before .before in
-    rw (← c2 .flags .ensures) (rw (ne-eqb _ _ (c1 .if1 .left)) (c .part .ensures ∙ part-none _ _))
+returns-2 c = rw (← c .before .before .before .flags .ensures) (rw (ne-eqb _ _ (c .before .if1 .left)) (c .part .ensures ∙ part-none _ _))
 
 pub counter-bytes-spec : {M : Type 1} → statement M
 counter-bytes-spec =

@@ -1,6 +1,3 @@
-use Rattle.manual.specs.Wallet.{readCard, createWallet, setPin, sign, purgeWallet}
-use Rattle.manual.specs.Checking.{checkWallet, verifyCard, validateCard}
-use Rattle.manual.specs.Storage.{readUserData, writeUserData, writeIssuerData, readIssuerData}
 use mathlib.Core.List.{[]}
 use Rattle.sent.specs.Sent.{viewBy}
 use Rattle.manual.specs.Row.{eachAsked}
@@ -71,19 +68,13 @@ same-length : tie.Need-same-length
 same-length c = search needs
 
 returns-2 : tie.Need-returns-2
-returns-2 c =
-    let c1 = c .before .before in
-    let c2 = c1 .before .before in
-    rw (c2 .enum-told2 .given .1) (c1 .pose-key .ensures (viewBy [] []) [])
+returns-2 c = rw (c .before .before .before .before .enum-told2 .given .1) (c .before .before .pose-key .ensures (viewBy [] []) [])
 
 same-length-2 : tie.Need-same-length-2
 same-length-2 c = search needs
 
 returns-3 : tie.Need-returns-3
-returns-3 c =
-    let c1 = c .before .before in
-    let c2 = c1 .before .before in
-    rw (c2 .enum-told3 .given .1) (c1 .pose-check .ensures)
+returns-3 c = rw (c .before .before .before .before .enum-told3 .given .1) (c .before .before .pose-check .ensures)
 
 returns-4 : tie.Need-returns-4
 unfolding eachAsked
@@ -93,28 +84,19 @@ same-length-3 : tie.Need-same-length-3
 same-length-3 c = search needs
 
 returns-5 : tie.Need-returns-5
-returns-5 c =
-    let c1 = c .before .before in
-    let c2 = c1 .before .before in
-    rw (c2 .enum-told5 .given .1) (c1 .pose-sign .ensures [])
+returns-5 c = rw (c .before .before .before .before .enum-told5 .given .1) (c .before .before .pose-sign .ensures [])
 
 same-length-4 : tie.Need-same-length-4
 same-length-4 c = search needs
 
 returns-6 : tie.Need-returns-6
-returns-6 c =
-    let c1 = c .before .before in
-    let c2 = c1 .before .before in
-    rw (c2 .enum-told6 .given .1) (c1 .pose-verify .ensures)
+returns-6 c = rw (c .before .before .before .before .enum-told6 .given .1) (c .before .before .pose-verify .ensures)
 
 same-length-5 : tie.Need-same-length-5
 same-length-5 c = search needs
 
 returns-7 : tie.Need-returns-7
-returns-7 c =
-    let c1 = c .before .before in
-    let c2 = c1 .before .before in
-    rw (c2 .enum-told7 .given .1) (c1 .pose-validate .ensures (viewBy [] []) [])
+returns-7 c = rw (c .before .before .before .before .enum-told7 .given .1) (c .before .before .pose-validate .ensures (viewBy [] []) [])
 
 returns-8 : tie.Need-returns-8
 unfolding eachAsked
@@ -132,10 +114,7 @@ same-length-6 : tie.Need-same-length-6
 same-length-6 c = search needs
 
 returns-11 : tie.Need-returns-11
-returns-11 c =
-    let c1 = c .before .before in
-    let c2 = c1 .before .before in
-    rw (c2 .enum-told11 .given .1) (c1 .pose-issuer .ensures [])
+returns-11 c = rw (c .before .before .before .before .enum-told11 .given .1) (c .before .before .pose-issuer .ensures [])
 
 returns-12 : tie.Need-returns-12
 unfolding eachAsked

@@ -1,6 +1,5 @@
 use mathlib.Core.Path.{sym, _∙_}
 use Rattle.questions.proofs.Laws.{ask-more}
-use Rattle.manual.specs.Checking.{checkWallet}
 use borrow.Author.Needs.{needs}
 use Rattle.questions.proofs.pose_check.Statement.{statement}
 use Rattle.questions.proofs.pose_check.Tie as tie

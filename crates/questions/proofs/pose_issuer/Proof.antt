@@ -1,4 +1,3 @@
-use Rattle.manual.specs.Storage.{writeIssuerData}
 use borrow.Author.Needs.{needs}
 use Rattle.questions.proofs.pose_issuer.Statement.{statement}
 use Rattle.questions.proofs.pose_issuer.Tie as tie

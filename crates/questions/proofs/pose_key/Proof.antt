@@ -3,7 +3,6 @@ use mathlib.Core.List.{[]}
 use Rattle.questions.proofs.Laws.{ask}
 use Rattle.wire.proofs.Laws.{wrote-none}
 use Rattle.wire.specs.Wire.{joined}
-use Rattle.manual.specs.Wallet.{createWallet}
 use borrow.Author.Needs.{needs}
 use Rattle.questions.proofs.pose_key.Statement.{statement}
 use Rattle.questions.proofs.pose_key.Tie as tie

@@ -25,14 +25,10 @@ same-length c = search needs
 
 returns : tie.Need-returns
 returns c =
-    let c1 = c .before .before in
-    let c2 = c1 .before .before in
-    let c3 = c2 .before in
-    let c4 = c3 .before in
-    let c5 = c4 .before in
-    let c6 = c5 .before in
-    rw (eq-eqb _ _ (sym (ap length (c3 .value .ensures)) ∙ c2 .if1 .taken))
-    (rw (c4 .key .ensures, c5 .curve .ensures, c6 .wallet .ensures) at (c1 .put-one .ensures))
+    let i = c .before .before .before .before in
+    let v = i .before in
+    rw (eq-eqb _ _ (sym (ap length (v .value .ensures)) ∙ i .if1 .taken))
+    (rw (v .before .key .ensures, v .before .before .curve .ensures, v .before .before .before .wallet .ensures) at (c .before .before .put-one .ensures))
 
 part-requires : tie.Need-part-requires
 part-requires c κs = tt
@@ -45,15 +41,11 @@ same-length-2 c = search needs
 
 returns-2 : tie.Need-returns-2
 returns-2 c =
-    let c1 = c .before .before in
-    let c2 = c1 .before .before in
-    let c3 = c2 .before in
-    let c4 = c3 .before in
-    let c5 = c4 .before in
-    let c6 = c5 .before in
-    let c7 = c6 .before in
-    rw (ne-eqb _ _ (λ z. c3 .if1 .left (ap length (c4 .value .ensures) ∙ z)))
-    (rw (c2 .part .ensures, c4 .value .ensures, c5 .key .ensures, c6 .curve .ensures, c7 .wallet .ensures) at (c1 .put-key .ensures))
+    let p = c .before .before .before .before in
+    let v = p .before .before in
+    rw (ne-eqb _ _ (λ z. p .before .if1 .left (ap length (v .value .ensures) ∙ z)))
+    (rw (p .part .ensures, v .value .ensures, v .before .key .ensures, v .before .before .curve .ensures, v .before .before .before .wallet .ensures)
+    at (c .before .before .put-key .ensures))
 
 pub pose-key-check-spec : {M : Type 1} → statement M
 pose-key-check-spec =

@@ -1,7 +1,6 @@
 use mathlib.Core.Path.{sym, _∙_}
 use Rattle.wire.proofs.Laws.{wrote-none}
 use Rattle.manual.specs.Row.{eachAsked}
-use Rattle.manual.specs.Wallet.{sign}
 use Rattle.request.proofs.Laws.{asks-new, asks-again}
 use borrow.Author.Needs.{needs}
 use Rattle.questions.proofs.pose_sign.Statement.{statement}

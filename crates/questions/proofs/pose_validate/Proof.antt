@@ -1,4 +1,3 @@
-use Rattle.manual.specs.Checking.{validateCard}
 use borrow.Author.Needs.{needs}
 use Rattle.questions.proofs.pose_validate.Statement.{statement}
 use Rattle.questions.proofs.pose_validate.Tie as tie

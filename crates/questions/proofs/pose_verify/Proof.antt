@@ -1,4 +1,3 @@
-use Rattle.manual.specs.Checking.{verifyCard}
 use borrow.Author.Needs.{needs}
 use Rattle.questions.proofs.pose_verify.Statement.{statement}
 use Rattle.questions.proofs.pose_verify.Tie as tie
