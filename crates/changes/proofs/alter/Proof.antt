@@ -1,6 +1,3 @@
-use Rattle.manual.specs.Wallet.{readCard, createWallet, setPin, sign, purgeWallet}
-use Rattle.manual.specs.Checking.{checkWallet, verifyCard, validateCard}
-use Rattle.manual.specs.Storage.{readUserData, writeUserData, writeIssuerData, readIssuerData}
 use borrow.Author.Needs.{needs}
 use Rattle.changes.proofs.alter.Statement.{statement}
 use Rattle.changes.proofs.alter.Tie as tie
@@ -72,37 +69,25 @@ same-length : tie.Need-same-length
 same-length c = search needs
 
 returns-2 : tie.Need-returns-2
-returns-2 c =
-    let c1 = c .before .before in
-    let c2 = c1 .before .before in
-    rw (c2 .enum-told2 .given .1) (c1 .created .ensures)
+returns-2 c = rw (c .before .before .before .before .enum-told2 .given .1) (c .before .before .created .ensures)
 
 same-length-2 : tie.Need-same-length-2
 same-length-2 c = search needs
 
 returns-3 : tie.Need-returns-3
-returns-3 c =
-    let c1 = c .before .before in
-    let c2 = c1 .before .before in
-    rw (c2 .enum-told3 .given .1) (c1 .checked .ensures)
+returns-3 c = rw (c .before .before .before .before .enum-told3 .given .1) (c .before .before .checked .ensures)
 
 same-length-3 : tie.Need-same-length-3
 same-length-3 c = search needs
 
 returns-4 : tie.Need-returns-4
-returns-4 c =
-    let c1 = c .before .before in
-    let c2 = c1 .before .before in
-    rw (c2 .enum-told4 .given .1) (c1 .recoded .ensures _)
+returns-4 c = rw (c .before .before .before .before .enum-told4 .given .1) (c .before .before .recoded .ensures _)
 
 same-length-4 : tie.Need-same-length-4
 same-length-4 c = search needs
 
 returns-5 : tie.Need-returns-5
-returns-5 c =
-    let c1 = c .before .before in
-    let c2 = c1 .before .before in
-    rw (c2 .enum-told5 .given .1) (c1 .signed .ensures)
+returns-5 c = rw (c .before .before .before .before .enum-told5 .given .1) (c .before .before .signed .ensures)
 
 returns-6 : tie.Need-returns-6
 returns-6 c = rw (c .enum-told6 .given .1) (λ rest h. h)
@@ -111,19 +96,13 @@ same-length-5 : tie.Need-same-length-5
 same-length-5 c = search needs
 
 returns-7 : tie.Need-returns-7
-returns-7 c =
-    let c1 = c .before .before in
-    let c2 = c1 .before .before in
-    rw (c2 .enum-told7 .given .1) (c1 .validated .ensures)
+returns-7 c = rw (c .before .before .before .before .enum-told7 .given .1) (c .before .before .validated .ensures)
 
 same-length-6 : tie.Need-same-length-6
 same-length-6 c = search needs
 
 returns-8 : tie.Need-returns-8
-returns-8 c =
-    let c1 = c .before .before in
-    let c2 = c1 .before .before in
-    rw (c2 .enum-told8 .given .1) (c1 .purged .ensures)
+returns-8 c = rw (c .before .before .before .before .enum-told8 .given .1) (c .before .before .purged .ensures)
 
 returns-9 : tie.Need-returns-9
 returns-9 c = rw (c .enum-told9 .given .1) (λ rest h. h)
@@ -132,19 +111,13 @@ same-length-7 : tie.Need-same-length-7
 same-length-7 c = search needs
 
 returns-10 : tie.Need-returns-10
-returns-10 c =
-    let c1 = c .before .before in
-    let c2 = c1 .before .before in
-    rw (c2 .enum-told10 .given .1) (c1 .stored .ensures)
+returns-10 c = rw (c .before .before .before .before .enum-told10 .given .1) (c .before .before .stored .ensures)
 
 same-length-8 : tie.Need-same-length-8
 same-length-8 c = search needs
 
 returns-11 : tie.Need-returns-11
-returns-11 c =
-    let c1 = c .before .before in
-    let c2 = c1 .before .before in
-    rw (c2 .enum-told11 .given .1) (c1 .noted .ensures)
+returns-11 c = rw (c .before .before .before .before .enum-told11 .given .1) (c .before .before .noted .ensures)
 
 returns-12 : tie.Need-returns-12
 returns-12 c = rw (c .enum-told12 .given .1) (λ rest h. h)

@@ -9,19 +9,13 @@ sent-counter-requires : tie.Need-sent-counter-requires
 sent-counter-requires c κs = tt
 
 returns : tie.Need-returns
-returns c =
-    let c1 = c .before in
-    let c2 = c1 .before .before in
-    rw (← c2 .flags .ensures) (rw (eq-eqb _ _ (c1 .if1 .taken)) (c .sent-counter .ensures))
+returns c = rw (← c .before .before .before .flags .ensures) (rw (eq-eqb _ _ (c .before .if1 .taken)) (c .sent-counter .ensures))
 
 note-counter-requires : tie.Need-note-counter-requires
 note-counter-requires c κs = tt
 
 returns-2 : tie.Need-returns-2
-returns-2 c =
-    let c1 = c .before in
-    let c2 = c1 .before .before in
-    rw (← c2 .flags .ensures) (rw (ne-eqb _ _ (c1 .if1 .left)) (c .note-counter .ensures))
+returns-2 c = rw (← c .before .before .before .flags .ensures) (rw (ne-eqb _ _ (c .before .if1 .left)) (c .note-counter .ensures))
 
 pub kept-counter-spec : {M : Type 1} → statement M
 kept-counter-spec =

@@ -1,5 +1,4 @@
 use mathlib.Core.Path.{sym, _∙_}
-use Rattle.manual.specs.Wallet.{sign}
 use Rattle.request.proofs.Laws.{asks-new, asks-again}
 use borrow.Author.Needs.{needs}
 use Rattle.changes.proofs.signed.Statement.{statement}

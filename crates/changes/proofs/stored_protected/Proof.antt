@@ -18,16 +18,12 @@ same-length c = search needs
 
 returns : tie.Need-returns
 returns c =
-    let c1 = c .before .before in
-    let c2 = c1 .before in
-    let c3 = c2 .before .before in
-    let c4 = c3 .before in
-    λ t rest h. rw (sym (c4 .has .ensures) ∙ c3 .if1 .taken) (anew-protected _ (rw (c2 .value .ensures) at (c1 .protected .ensures)) h)
+    let v = c .before .before .before in
+    let i = v .before .before in
+    λ t rest h. rw (sym (i .before .has .ensures) ∙ i .if1 .taken) (anew-protected _ (rw (v .value .ensures) at (c .before .before .protected .ensures)) h)
 
 returns-2 : tie.Need-returns-2
-returns-2 c =
-    let c1 = c .before in
-    λ t rest h. rw (sym (c1 .has .ensures) ∙ c .if1 .left) h
+returns-2 c = λ t rest h. rw (sym (c .before .has .ensures) ∙ c .if1 .left) h
 
 pub stored-protected-spec : {M : Type 1} → statement M
 stored-protected-spec =
