@@ -1,6 +1,3 @@
-use Rattle.manual.specs.Wallet.{readCard, createWallet, setPin, sign, purgeWallet}
-use Rattle.manual.specs.Checking.{checkWallet, verifyCard, validateCard}
-use Rattle.manual.specs.Storage.{readUserData, writeUserData, writeIssuerData, readIssuerData}
 use native.Mathlib.Omega.{arith}
 use borrow.Author.Needs.{needs}
 use Rattle.tells.proofs.more.Statement.{statement}
@@ -55,9 +52,7 @@ returns-3 : tie.Need-returns-3
 returns-3 c = (rw (c .enum-told3 .given .1), omega arith)
 
 returns-4 : tie.Need-returns-4
-returns-4 c =
-    let c1 = c .before in
-    (rw (c1 .enum-told4 .given .1) (c .renewed .ensures .0), c .renewed .ensures .1)
+returns-4 c = (rw (c .before .enum-told4 .given .1) (c .renewed .ensures .0), c .renewed .ensures .1)
 
 returns-5 : tie.Need-returns-5
 returns-5 c = (rw (c .enum-told5 .given .1), omega arith)

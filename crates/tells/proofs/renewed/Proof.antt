@@ -2,7 +2,6 @@ use mathlib.Core.Path.{ap, ap₂, _∙_}
 use mathlib.Core.Bool.{cond}
 use Prim.Native.Nat.{_+_}
 use native.Mathlib.Omega.{arith}
-use Rattle.manual.specs.Wallet.{setPin}
 use borrow.Author.Needs.{needs}
 use Rattle.tells.proofs.renewed.Statement.{statement}
 use Rattle.tells.proofs.renewed.Tie as tie

@@ -25,13 +25,10 @@ same-length c = search needs
 returns : tie.Need-returns
 unfolding each
 returns c =
-    let c1 = c .before .before in
-    let c2 = c1 .before .before .before .before in
-    let c3 = c2 .before .before in
-    let c4 = c3 .before .before .before in
-    let c5 = c4 .before .before in
-    wrote-more (rw (c5 .curve .ensures) at (c4 .put-curve .ensures))
-    (wrote-more (rw (c3 .wallet .ensures) at (c2 .put-number .ensures)) (c1 .tell-wallet .ensures))
+    let n = c .before .before .before .before .before .before in
+    let p = n .before .before .before .before .before in
+    wrote-more (rw (p .before .before .curve .ensures) at (p .put-curve .ensures))
+    (wrote-more (rw (n .before .before .wallet .ensures) at (n .put-number .ensures)) (c .before .before .tell-wallet .ensures))
 
 pub tell-active-spec : {M : Type 1} → statement M
 tell-active-spec =

@@ -2,7 +2,6 @@ use Rattle.fields.specs.Fields.{each}
 use Rattle.fields.proofs.Laws.{each-append}
 use Rattle.wire.proofs.Laws.{wrote-none, wrote-one, wrote-append}
 use borrow.Author.Tests.{eq-eqb, ne-eqb}
-use Rattle.manual.specs.Storage.{readIssuerData}
 use borrow.Author.Needs.{needs}
 use Rattle.tells.proofs.tell_issuer.Statement.{statement}
 use Rattle.tells.proofs.tell_issuer.Tie as tie

@@ -1,6 +1,3 @@
-use Rattle.manual.specs.Wallet.{readCard, createWallet, setPin, sign, purgeWallet}
-use Rattle.manual.specs.Checking.{checkWallet, verifyCard, validateCard}
-use Rattle.manual.specs.Storage.{readUserData, writeUserData, writeIssuerData, readIssuerData}
 use mathlib.Core.List.{[]}
 use Rattle.sent.specs.Sent.{viewBy}
 use Rattle.fields.specs.Fields.{each}
@@ -77,28 +74,19 @@ same-length : tie.Need-same-length
 same-length c = search needs
 
 returns : tie.Need-returns
-returns c =
-    let c1 = c .before .before in
-    let c2 = c1 .before .before in
-    rw (c2 .enum-told .given .1) (c1 .tell-read .ensures)
+returns c = rw (c .before .before .before .before .enum-told .given .1) (c .before .before .tell-read .ensures)
 
 same-length-2 : tie.Need-same-length-2
 same-length-2 c = search needs
 
 returns-2 : tie.Need-returns-2
-returns-2 c =
-    let c1 = c .before .before in
-    let c2 = c1 .before .before in
-    rw (c2 .enum-told2 .given .1) (c1 .tell-created .ensures (viewBy [] []) [] [])
+returns-2 c = rw (c .before .before .before .before .enum-told2 .given .1) (c .before .before .tell-created .ensures (viewBy [] []) [] [])
 
 same-length-3 : tie.Need-same-length-3
 same-length-3 c = search needs
 
 returns-3 : tie.Need-returns-3
-returns-3 c =
-    let c1 = c .before .before in
-    let c2 = c1 .before .before in
-    rw (c2 .enum-told3 .given .1) (c1 .tell-checked .ensures)
+returns-3 c = rw (c .before .before .before .before .enum-told3 .given .1) (c .before .before .tell-checked .ensures)
 
 returns-4 : tie.Need-returns-4
 unfolding each
@@ -108,46 +96,31 @@ same-length-4 : tie.Need-same-length-4
 same-length-4 c = search needs
 
 returns-5 : tie.Need-returns-5
-returns-5 c =
-    let c1 = c .before .before in
-    let c2 = c1 .before .before in
-    rw (c2 .enum-told5 .given .1) (c1 .tell-signed .ensures (viewBy [] []) [] [])
+returns-5 c = rw (c .before .before .before .before .enum-told5 .given .1) (c .before .before .tell-signed .ensures (viewBy [] []) [] [])
 
 same-length-5 : tie.Need-same-length-5
 same-length-5 c = search needs
 
 returns-6 : tie.Need-returns-6
-returns-6 c =
-    let c1 = c .before .before in
-    let c2 = c1 .before .before in
-    rw (c2 .enum-told6 .given .1) (c1 .tell-verified .ensures (decode [] .face) (viewBy [] []))
+returns-6 c = rw (c .before .before .before .before .enum-told6 .given .1) (c .before .before .tell-verified .ensures (decode [] .face) (viewBy [] []))
 
 same-length-6 : tie.Need-same-length-6
 same-length-6 c = search needs
 
 returns-7 : tie.Need-returns-7
-returns-7 c =
-    let c1 = c .before .before in
-    let c2 = c1 .before .before in
-    rw (c2 .enum-told7 .given .1) (c1 .tell-validated .ensures (viewBy [] []) [])
+returns-7 c = rw (c .before .before .before .before .enum-told7 .given .1) (c .before .before .tell-validated .ensures (viewBy [] []) [])
 
 same-length-7 : tie.Need-same-length-7
 same-length-7 c = search needs
 
 returns-8 : tie.Need-returns-8
-returns-8 c =
-    let c1 = c .before .before in
-    let c2 = c1 .before .before in
-    rw (c2 .enum-told8 .given .1) (c1 .tell-purged .ensures (viewBy [] []) [] [])
+returns-8 c = rw (c .before .before .before .before .enum-told8 .given .1) (c .before .before .tell-purged .ensures (viewBy [] []) [] [])
 
 same-length-8 : tie.Need-same-length-8
 same-length-8 c = search needs
 
 returns-9 : tie.Need-returns-9
-returns-9 c =
-    let c1 = c .before .before in
-    let c2 = c1 .before .before in
-    rw (c2 .enum-told9 .given .1) (c1 .tell-user .ensures (viewBy [] []) [] [])
+returns-9 c = rw (c .before .before .before .before .enum-told9 .given .1) (c .before .before .tell-user .ensures (viewBy [] []) [] [])
 
 returns-10 : tie.Need-returns-10
 unfolding each
@@ -161,10 +134,7 @@ same-length-9 : tie.Need-same-length-9
 same-length-9 c = search needs
 
 returns-12 : tie.Need-returns-12
-returns-12 c =
-    let c1 = c .before .before in
-    let c2 = c1 .before .before in
-    rw (c2 .enum-told12 .given .1) (c1 .tell-issuer .ensures (viewBy [] []) [] [])
+returns-12 c = rw (c .before .before .before .before .enum-told12 .given .1) (c .before .before .tell-issuer .ensures (viewBy [] []) [] [])
 
 pub tell-own-spec : {M : Type 1} → statement M
 tell-own-spec =

@@ -1,6 +1,5 @@
 use Rattle.fields.specs.Fields.{each}
 use Rattle.wire.proofs.Laws.{wrote-one}
-use Rattle.manual.specs.Wallet.{purgeWallet}
 use borrow.Author.Needs.{needs}
 use Rattle.tells.proofs.tell_purged.Statement.{statement}
 use Rattle.tells.proofs.tell_purged.Tie as tie

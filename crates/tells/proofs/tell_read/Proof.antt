@@ -23,12 +23,10 @@ same-length c = search needs
 returns : tie.Need-returns
 unfolding each
 returns c =
-    let c1 = c .before .before in
-    let c2 = c1 .before .before in
-    let c3 = c2 .before .before in
-    let c4 = c3 .before .before .before in
-    let c5 = c4 .before .before in
-    rw (← c3 .flags .ensures) (rw (eq-eqb _ _ (c2 .if1 .taken)) (wrote-more (rw (c5 .wallet .ensures) at (c4 .put-byte .ensures)) (c1 .tell-active .ensures)))
+    let i = c .before .before .before .before in
+    let p = i .before .before .before .before .before in
+    let s = rw (p .before .before .wallet .ensures) at (p .put-byte .ensures) in
+    rw (← i .before .before .flags .ensures) (rw (eq-eqb _ _ (i .if1 .taken)) (wrote-more s (c .before .before .tell-active .ensures)))
 
 put-byte-requires-2 : tie.Need-put-byte-requires-2
 put-byte-requires-2 c κs = tt
@@ -39,13 +37,10 @@ same-length-2 c = search needs
 returns-2 : tie.Need-returns-2
 unfolding each
 returns-2 c =
-    let c1 = c .before .before in
-    let c2 = c1 .before .before in
-    let c3 = c2 .before .before in
-    let c4 = c3 .before .before .before in
-    let c5 = c4 .before .before in
-    rw (← c3 .flags .ensures)
-    (rw (ne-eqb _ _ (c2 .if1 .left)) (wrote-more (rw (c5 .wallet .ensures) at (c4 .put-byte .ensures)) (wrote-one (c1 .put-byte2 .ensures))))
+    let i = c .before .before .before .before in
+    let p = i .before .before .before .before .before in
+    let s = rw (p .before .before .wallet .ensures) at (p .put-byte .ensures) in
+    rw (← i .before .before .flags .ensures) (rw (ne-eqb _ _ (i .if1 .left)) (wrote-more s (wrote-one (c .before .before .put-byte2 .ensures))))
 
 pub tell-read-spec : {M : Type 1} → statement M
 tell-read-spec =

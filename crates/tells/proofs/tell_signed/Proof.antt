@@ -1,6 +1,5 @@
 use Rattle.fields.specs.Fields.{each}
 use Rattle.wire.proofs.Laws.{wrote-more, wrote-one}
-use Rattle.manual.specs.Wallet.{sign}
 use borrow.Author.Needs.{needs}
 use Rattle.tells.proofs.tell_signed.Statement.{statement}
 use Rattle.tells.proofs.tell_signed.Tie as tie

@@ -1,7 +1,6 @@
 use Rattle.fields.specs.Fields.{each}
 use Rattle.fields.proofs.Laws.{each-append}
 use Rattle.wire.proofs.Laws.{wrote-more, wrote-one, wrote-append}
-use Rattle.manual.specs.Storage.{readUserData}
 use borrow.Author.Needs.{needs}
 use Rattle.tells.proofs.tell_user.Statement.{statement}
 use Rattle.tells.proofs.tell_user.Tie as tie
@@ -33,16 +32,12 @@ same-length c = search needs
 returns : tie.Need-returns
 unfolding each
 returns c =
-    let c1 = c .before .before in
-    let c2 = c1 .before .before .before .before in
-    let c3 = c2 .before .before in
-    let c4 = c3 .before .before .before in
-    let c5 = c4 .before .before in
-    let c6 = c5 .before .before .before in
-    let c7 = c6 .before .before in
-    λ v d a. rw (each-append, each-append, ← c3 .counters .ensures, ← c5 .protected .ensures, ← c7 .user .ensures)
-    (wrote-append (c6 .tell-held .ensures)
-    (wrote-append (c4 .tell-held2 .ensures) (wrote-more (c2 .put-number .ensures) (wrote-one (c1 .put-number2 .ensures)))))
+    let n = c .before .before .before .before .before .before in
+    let q = n .before .before .before .before .before in
+    let p = q .before .before .before .before .before in
+    λ v d a. rw (each-append, each-append, ← n .before .before .counters .ensures, ← q .before .before .protected .ensures, ← p .before .before .user .ensures)
+    (wrote-append (p .tell-held .ensures)
+    (wrote-append (q .tell-held2 .ensures) (wrote-more (n .put-number .ensures) (wrote-one (c .before .before .put-number2 .ensures)))))
 
 pub tell-user-spec : {M : Type 1} → statement M
 tell-user-spec =

@@ -1,6 +1,5 @@
 use Rattle.fields.specs.Fields.{each}
 use Rattle.wire.proofs.Laws.{wrote-more, wrote-one}
-use Rattle.manual.specs.Checking.{validateCard}
 use borrow.Author.Needs.{needs}
 use Rattle.tells.proofs.tell_validated.Statement.{statement}
 use Rattle.tells.proofs.tell_validated.Tie as tie
