@@ -31,47 +31,28 @@ known [] i = tt
 known (k ∷ ks) i = by-cases (Known i) (eqb i (code k)) (λ e. eqb-true i (code k) e) (λ _. known ks i)
 
 -- of a command that is listed, and is not READ_CARD
-record Own (k : Command) : Type 0 where
-  listed : commandOf (insOf (code k)) ≡ k
-  other : eqb (code ReadCard) (code k) ≡ false
+module _ (k : Command) (listed : listedIn commands (code k) ≡ Listed k) where
+  by-ins : (q : List ℕ) → ins q ≡ code k → command q ≡ k
+  unfolding insOf
+  by-ins q e = ap (λ i. commandOf (insOf i)) e ∙ ap commandOf listed
 
-ins-is : (k : Command) → Own k → (q : List ℕ) → eqb (ins q) (code k) ≡ eqb (code (command q)) (code k)
-unfolding insOf
-ins-is k o q = go (eqb (ins q) (code k)) refl
-  where
-    unlike : (z : Ins) → Known (ins q) z → eqb (ins q) (code k) ≡ false → eqb (code (commandOf z)) (code k) ≡ false
-    unlike (Listed j) h e = ap (λ i. eqb i (code k)) (sym h) ∙ e
-    unlike Unlisted h e = o .other
+  ins-is : eqb (code ReadCard) (code k) ≡ false → (q : List ℕ) → eqb (ins q) (code k) ≡ eqb (code (command q)) (code k)
+  unfolding insOf
+  ins-is other q = go (eqb (ins q) (code k)) refl
+    where
+      unlike : (z : Ins) → Known (ins q) z → eqb (ins q) (code k) ≡ false → eqb (code (commandOf z)) (code k) ≡ false
+      unlike (Listed j) h e = ap (λ i. eqb i (code k)) (sym h) ∙ e
+      unlike Unlisted h e = other
 
-    go : (b : Bool) → eqb (ins q) (code k) ≡ b → b ≡ eqb (code (command q)) (code k)
-    go true e =
-        let s : command q ≡ k = ap (λ i. commandOf (insOf i)) (eqb-true (ins q) (code k) e) ∙ o .listed in
-        sym (ap (λ j. eqb (code j) (code k)) s ∙ eq-eqb (code k) (code k) refl)
-    go false e = sym (unlike (insOf (ins q)) (known commands (ins q)) e)
+      go : (b : Bool) → eqb (ins q) (code k) ≡ b → b ≡ eqb (code (command q)) (code k)
+      go true e = sym (ap (λ j. eqb (code j) (code k)) (by-ins q (eqb-true (ins q) (code k) e)) ∙ eq-eqb (code k) (code k) refl)
+      go false e = sym (unlike (insOf (ins q)) (known commands (ins q)) e)
 
-own-create : Own CreateWallet
-unfolding insOf
-own-create = record { listed = refl; other = refl }
-
-own-check : Own CheckWallet
-unfolding insOf
-own-check = record { listed = refl; other = refl }
-
-own-pin : Own SetPin
-unfolding insOf
-own-pin = record { listed = refl; other = refl }
-
-own-sign : Own Sign
-unfolding insOf
-own-sign = record { listed = refl; other = refl }
-
-own-purge : Own PurgeWallet
-unfolding insOf
-own-purge = record { listed = refl; other = refl }
-
-own-note : Own WriteIssuerData
-unfolding insOf
-own-note = record { listed = refl; other = refl }
+  -- the command of a tap that did it
+  did-is : (t : Tap) → did k t ≡ true → (accepted (t .response) ≡ true) × (command (t .request) ≡ k)
+  did-is t e =
+      let y = both-true (accepted (t .response)) (eqb (ins (t .request)) (code k)) e in
+      (y .0, by-ins (t .request) (eqb-true (ins (t .request)) (code k) (y .1)))
 
 -- which sums a tap that was accepted counts in, by its command
 pub record Did (k : Command) (t : Tap) : Type 0 where
@@ -83,26 +64,20 @@ pub record Did (k : Command) (t : Tap) : Type 0 where
 pub did-by : (q r : List ℕ) → accepted r ≡ true → Did (command q) (tap q r)
 did-by q r e =
     record {
-      create = rw e (ins-is CreateWallet own-create q);
-      pin = rw e (ins-is SetPin own-pin q);
-      sign = rw e (ins-is Sign own-sign q);
-      purge = rw e (ins-is PurgeWallet own-purge q);
+      create = rw e (ins-is CreateWallet refl refl q);
+      pin = rw e (ins-is SetPin refl refl q);
+      sign = rw e (ins-is Sign refl refl q);
+      purge = rw e (ins-is PurgeWallet refl refl q);
     }
 
--- the command of a tap that did it
-did-is : (k : Command) → Own k → (t : Tap) → did k t ≡ true → (accepted (t .response) ≡ true) × (command (t .request) ≡ k)
-did-is k o t e =
-    let y = both-true (accepted (t .response)) (eqb (ins (t .request)) (code k)) e in
-    (y .0, ap (λ i. commandOf (insOf i)) (eqb-true (ins (t .request)) (code k) (y .1)) ∙ o .listed)
-
 pub did-sign : (t : Tap) → did Sign t ≡ true → (accepted (t .response) ≡ true) × (command (t .request) ≡ Sign)
-did-sign = did-is Sign own-sign
+did-sign = did-is Sign refl
 
 pub did-note : (t : Tap) → did WriteIssuerData t ≡ true → (accepted (t .response) ≡ true) × (command (t .request) ≡ WriteIssuerData)
-did-note = did-is WriteIssuerData own-note
+did-note = did-is WriteIssuerData refl
 
 pub is-note : (q : List ℕ) → ins q ≡ code WriteIssuerData → command q ≡ WriteIssuerData
-is-note q e = ap (λ i. commandOf (insOf i)) e ∙ own-note .listed
+is-note q e = by-ins WriteIssuerData refl q e
 
 pub uses-by : (q : List ℕ) → usesWallet (ins q) ≡ true → usesWallet (code (command q)) ≡ true
-uses-by q u = rw (← ins-is CreateWallet own-create q, ← ins-is CheckWallet own-check q, ← ins-is Sign own-sign q) u
+uses-by q u = rw (← ins-is CreateWallet refl refl q, ← ins-is CheckWallet refl refl q, ← ins-is Sign refl refl q) u

@@ -15,7 +15,7 @@ use Rattle.manual.specs.Words.{drawSize}
 use Rattle.manual.specs.declared.Command.the-variants.{WriteIssuerData}
 use Rattle.manual.specs.Request.{command}
 use Rattle.manual.specs.Row.{Question}
-use Rattle.manual.specs.Storage.{guarded, sentCounter, writeIssuerData}
+use Rattle.manual.specs.Storage.{guarded, sentCounter}
 use Rattle.manual.specs.Commands.{row}
 use Rattle.manual.specs.Row.{Matched}
 use Rattle.manual.specs.Settle.{Call, sentIn, matched, Said, refused, done, saidTo, cardAfter, settled, settledOf, lent, roomy}
