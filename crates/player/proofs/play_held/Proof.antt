@@ -25,12 +25,12 @@ same-length-2 c = search needs
 returns : tie.Need-returns
 unfolding playedHeld
 returns c =
-    let k = c .before .before .before .before in
-    let i = k .before .before .before in
+    let i = c .before .before .before .before .before .before .before in
     let s = i .before .before .before .before .before in
     let x = s .args in
     rw (sym (i .before .belongs .ensures) ∙ i .if1 .taken)
-    (k .begin .ensures ∙ all-left (endedAt start) (now (x .img)) (now (x .out)) (started (now (x .text)) (now (x .img))) (s .pre))
+    (c .before .before .before .before .begin .ensures
+    ∙ all-left (endedAt start) (now (x .img)) (now (x .out)) (started (now (x .text)) (now (x .img))) (s .pre))
 
 same-length-3 : tie.Need-same-length-3
 same-length-3 c = search needs
@@ -41,12 +41,12 @@ same-length-4 c = search needs
 returns-2 : tie.Need-returns-2
 unfolding playedHeld
 returns-2 c =
-    let k = c .before .before .before .before in
-    let i = k .before .before .before in
+    let i = c .before .before .before .before .before .before .before in
     let s = i .before .before .before .before .before in
     let x = s .args in
     rw (sym (i .before .belongs .ensures) ∙ i .if1 .left)
-    (k .step .ensures ∙ all-left (x .p .play) (now (x .img)) (now (x .out)) (stepped (x .p .play) (now (x .img)) (now (x .text))) (s .pre))
+    (c .before .before .before .before .step .ensures
+    ∙ all-left (x .p .play) (now (x .img)) (now (x .out)) (stepped (x .p .play) (now (x .img)) (now (x .text))) (s .pre))
 
 pub play-held-spec : {M : Type 1} → statement M
 play-held-spec =

@@ -23,23 +23,20 @@ with-none-requires c κs = tt
 returns : tie.Need-returns
 unfolding counted
 returns c =
-    let m = c .before in
-    let i = m .before .before in
-    rw (sym (i .before .is-accepted .ensures) ∙ i .if1 .taken, sym (m .before .get8 .ensures) ∙ m .match .keys1) (c .with-wallet .ensures)
+    let i = c .before .before .before in
+    rw (sym (i .before .is-accepted .ensures) ∙ i .if1 .taken, sym (c .before .before .get8 .ensures) ∙ c .before .match .keys1) (c .with-wallet .ensures)
 
 returns-2 : tie.Need-returns-2
 unfolding counted
 returns-2 c =
-    let m = c .before in
-    let i = m .before .before in
-    rw (sym (i .before .is-accepted .ensures) ∙ i .if1 .taken, sym (m .before .get8 .ensures) ∙ m .match .keys2) (c .signed .ensures)
+    let i = c .before .before .before in
+    rw (sym (i .before .is-accepted .ensures) ∙ i .if1 .taken, sym (c .before .before .get8 .ensures) ∙ c .before .match .keys2) (c .signed .ensures)
 
 returns-3 : tie.Need-returns-3
 unfolding counted
 returns-3 c =
-    let m = c .before in
-    let i = m .before .before in
-    rw (sym (i .before .is-accepted .ensures) ∙ i .if1 .taken, sym (m .before .get8 .ensures) ∙ m .match .keys3) (c .with-none .ensures)
+    let i = c .before .before .before in
+    rw (sym (i .before .is-accepted .ensures) ∙ i .if1 .taken, sym (c .before .before .get8 .ensures) ∙ c .before .match .keys3) (c .with-none .ensures)
 
 returns-4 : tie.Need-returns-4
 unfolding counted
