@@ -12,26 +12,25 @@ use Rattle.wire.specs.Wire.{part, Wrote, Wrotes, joined, be2}
 use Rattle.wire.proofs.Laws.{runs, all-run, then, front, both-true, part-plain}
 use Rattle.wire.proofs.Parts.{Bytes}
 use Rattle.fields.specs.Fields.{View, viewOf, each, written, wellFormed}
-use Rattle.sent.specs.Sent.{places, viewBy, placesOf, Filled}
+use Rattle.sent.specs.Sent.{places, viewBy, Filled}
 use Rattle.sent.proofs.Laws.{same-view, fill-form}
 use Rattle.card.specs.declared.Card.{Card}
 use Rattle.card.specs.Layout.{imageSize, imageRoom}
 use Rattle.card.specs.Image.{encode, decode}
-use Rattle.card.specs.Shape.{Shape}
 use Rattle.cards.proofs.Shape.{length-encode}
-use Rattle.cards.proofs.Round.{encode-decode, decode-encode, shape-decode}
+use Rattle.cards.proofs.Round.{encode-decode, decode-encode}
 use Rattle.manual.specs.declared.Command.{Command}
 use Rattle.manual.specs.declared.Verdict.{Verdict}
 use Rattle.manual.specs.declared.Verdict.the-variants.{Pass, Stop}
 use Rattle.manual.specs.Words.{swProcessCompleted, swErrorProcessingCommand, questionsRoom, responseRoom}
-use Rattle.manual.specs.Request.{lcOf, fits, command, payload, bodyIn}
+use Rattle.manual.specs.Request.{command, payload, bodyIn}
 use Rattle.manual.specs.Row.{Matched, asked, eachAsked, shaped}
 use Rattle.manual.specs.Commands.{row}
 use Rattle.manual.specs.Settle.{Said, settledBy, outcome, refused, silent, done, answered, said, cardAfter, over, fieldsOf, responseOf}
-use Rattle.manual.specs.Settle.{lent, untouched, settledOf, roomy, matched, judged, judgedBy, sentIn, wordOf, posed, posedBy, askedOf, askedFrom}
+use Rattle.manual.specs.Settle.{lent, untouched, settledOf, roomy, matched, judged, judgedBy, sentIn, posed, posedBy, askedOf, askedFrom}
 use Rattle.facts.proofs.Facts.{small-decode, facts, asks, tells}
 use Rattle.request.proofs.Laws.{body-is, payload-short}
-use Rattle.gate.specs.Gate.{headOf, laterOf, judgedOf}
+use Rattle.gate.specs.Gate.{headOf, laterOf}
 use Rattle.gate.proofs.Laws.{at-head, past-head, heads, command-of, fields-hold}
 use Rattle.manual.specs.declared.Outcome.{Outcome}
 use Rattle.changes.specs.Carried.{carriedCard, carriedImage, keptImage}
