@@ -121,11 +121,12 @@ fn copy(out: &mut [u8], at: usize, v: &[u8]) -> usize
     copy_each(out, at, v)
 }
 
+// What is written has mostly a length that the compiler knows, so that `size - n` comes before a loop of writes.
 pub fn has_room(size: usize, at: usize, n: usize) -> bool
     ensures { λ r. ⌜ r ≡ room size at n ⌝ }
 {
-    if at <= size {
-        return n <= size - at;
+    if n <= size {
+        return at <= size - n;
     }
     false
 }
