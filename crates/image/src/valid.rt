@@ -96,7 +96,10 @@ fn block_ok(img: &[u8], at: u16) -> bool
 {
     let size = wire::get16(img, at) as usize;
     let bytes = wire::part(img, at as usize + 2, Block::ROOM);
-    wire::both(size <= Block::ROOM, wire::zero_from(bytes, size))
+    if size <= Block::ROOM {
+        return wire::zero_from(bytes, size);
+    }
+    false
 }
 
 // While no data is held, the signature is zero too.
@@ -147,8 +150,14 @@ fn held_ok(img: &[u8]) -> bool
     wire::both(block_ok(img, layout::USER_AT as u16), kept)
 }
 
+// Group by group, each behind the one before: of a group that is fine nothing is kept until the last has been looked at.
 pub fn face_ok(img: &[u8]) -> bool
     ensures { λ r. ⌜ r ≡ okFace (decode (now (img .entry)) .face) ⌝ }
 {
-    wire::both(front_ok(img), wire::both(held_ok(img), last_ok(img)))
+    if front_ok(img) {
+        if held_ok(img) {
+            return last_ok(img);
+        }
+    }
+    false
 }

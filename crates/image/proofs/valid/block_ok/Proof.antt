@@ -1,10 +1,11 @@
-use mathlib.Core.Path.{ap, ap₂, _∙_}
+use mathlib.Core.Path.{ap, ap₂, sym, _∙_}
 use lib.ListN.{drop}
 use lib.Dec.{leb}
+use borrow.Author.Tests.{le-leb, lt-leb}
 use Rattle.wire.specs.Wire.{allZero}
 use Rattle.card.specs.Layout.{dataRoom}
 use Rattle.card.specs.Valid.{okBlock}
-use Rattle.image.proofs.Laws.{both-of}
+use Rattle.image.proofs.Laws.{passed, ended}
 use borrow.Author.Needs.{needs}
 use Rattle.image.proofs.valid.block_ok.Statement.{statement}
 use Rattle.image.proofs.valid.block_ok.Tie as tie
@@ -24,25 +25,18 @@ part-requires c κs = tt
 zero-from-requires : tie.Need-zero-from-requires
 zero-from-requires c κs = tt
 
-both-requires : tie.Need-both-requires
-both-requires c κs = tt
-
 returns : tie.Need-returns
 unfolding okBlock
 returns c =
-    let z = c .before in
-    let p = z .before in
+    let i = c .before in
+    let p = i .before in
     let size = p .before .get16 .ensures in
-    both-of (c .both .ensures) (ap (λ n. leb n dataRoom) size) (z .zero-from .ensures ∙ ap₂ (λ n x. allZero (drop n x)) size (p .part .ensures))
+    passed (ap (λ n. leb n dataRoom) (sym size) ∙ le-leb _ _ (i .if1 .taken))
+    (c .zero-from .ensures ∙ ap₂ (λ n x. allZero (drop n x)) size (p .part .ensures))
+
+returns-2 : tie.Need-returns-2
+unfolding okBlock
+returns-2 c = ended _ (ap (λ n. leb n dataRoom) (sym (c .before .before .get16 .ensures)) ∙ lt-leb _ _ (c .if1 .left))
 
 pub block-ok-spec : {M : Type 1} → statement M
-block-ok-spec =
-    tie.close
-    (tie.spec
-    get16-requires
-    cast-size
-    add-part
-    part-requires
-    zero-from-requires
-    both-requires
-    returns)
+block-ok-spec = tie.close (tie.spec get16-requires cast-size add-part part-requires zero-from-requires returns returns-2)
