@@ -3,11 +3,10 @@ use Prim.Native.Nat.{ℕ, suc, _+_, _-_, _*_, _/_, _%_, _≤_, _<_}
 use native.Mathlib.Omega.{arith}
 use mathlib.Core.Path.{_≡_, sym, ap, _∙_, subst}
 use mathlib.Core.List.{List, [], _∷_, append-nil}
-use lib.ListN.{length, drop, length-append}
+use lib.ListN.{length, take, drop, length-append}
 use lib.Seq.{drop-drop}
-use Rattle.wire.specs.Wire.{Wrote, Wrotes, joined, grab}
+use Rattle.wire.specs.Wire.{Wrote, Wrotes, joined}
 use Rattle.wire.proofs.Laws.{wrote-none, wrote-more, wrote-append}
-use Rattle.wire.proofs.Parts.{grab-plain}
 use Rattle.card.specs.Values.{u16}
 use Rattle.manual.specs.Words.{hashSize}
 use Rattle.manual.specs.Row.{Question, question, headBytes, eachAsked}
@@ -59,7 +58,7 @@ Left number curve n i h out₀ out at = (d : List ℕ) (r : ℕ) → Wrotes out 
 
 -- the next question
 abbrev pub hashAt : (number curve i : ℕ) (h : List ℕ) → Question
-hashAt number curve i h = question 2 number curve (grab hashSize (i * hashSize) h ∷ [])
+hashAt number curve i h = question 2 number curve (take hashSize (drop (i * hashSize) h) ∷ [])
 
 split : (number curve n i : ℕ) (h : List ℕ) → i < n → n ≡ length h / hashSize → hashQuestions number curve (n - i) (drop (i * hashSize) h)
     ≡ hashAt number curve i h ∷ hashQuestions number curve (n - (i + 1)) (drop ((i + 1) * hashSize) h)
@@ -67,7 +66,7 @@ unfolding hashQuestions
 split number curve n i h k e =
     let z : n - i ≡ suc (n - (i + 1)) = omega arith in
     let y : i * 32 + 32 ≡ (i + 1) * 32 = omega arith in
-    rw (z, grab-plain h (i * 32) 32 (omega arith), drop-drop 32 (i * 32) h, y)
+    rw (z, drop-drop 32 (i * 32) h, y)
 
 pub turn : (number curve n i : ℕ) (h : List ℕ) {out₀ out : List ℕ} {at : ℕ} {out′ : List ℕ} {at′ : ℕ} → i < n → n ≡ length h / hashSize
     → Left number curve n i h out₀ out at → Wrotes out at (eachAsked (hashAt number curve i h ∷ [])) out′ at′ → Left number curve n (i + 1) h out₀ out′ at′

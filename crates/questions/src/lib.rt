@@ -113,15 +113,7 @@ fn pose_key(img: &[u8], out: &mut [u8]) -> usize
     put_head(out, 0, MAKE_KEY, number, image::curve(img), 0)
 }
 
-// The hash is taken by value, so that its 32 bytes are moved at once.
-fn put_hash(out: &mut [u8], at: usize, number: u16, curve: u8, hash: [u8; 32]) -> usize
-    ensures { λ r. ⌜ Wrotes (now (out .entry)) at (eachAsked (question 2 number curve (hash ∷ []) ∷ [])) (now (out .exit)) r ⌝ }
-{
-    let a = put_head(out, at, SIGN_HASH, number, curve, 32);
-    wire::give32(out, a, hash)
-}
-
-// A question for each hash, in order.
+// A question for each hash, in order. A hash is a slice whose length the compiler knows, so that its bytes are moved at once.
 fn pose_hashes(number: u16, curve: u8, hashes: &[u8], out: &mut [u8]) -> usize
     ensures { λ r. ⌜ Wrotes (now (out .entry)) 0
         (eachAsked (hashQuestions number curve (length (now (hashes .entry)) / hashSize) (now (hashes .entry))))
@@ -131,13 +123,9 @@ fn pose_hashes(number: u16, curve: u8, hashes: &[u8], out: &mut [u8]) -> usize
     let mut at = 0;
     let mut i = 0;
     while i < n {
-        at = put_hash(
-            out,
-            at,
-            number,
-            curve,
-            wire::take32(hashes, i * manual::HASH_SIZE),
-        );
+        let from = i * manual::HASH_SIZE;
+        let hash = &hashes[from..from + manual::HASH_SIZE];
+        at = put_one(out, at, SIGN_HASH, number, curve, hash);
         i += 1;
     }
     at

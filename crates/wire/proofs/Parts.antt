@@ -7,8 +7,8 @@ use native.Mathlib.Omega.{arith}
 use lib.ListN.{length, take, drop, getD, replicate, length-append, length-drop, length-replicate}
 use lib.Seq.{take-at, drop-at, drop-drop, drop-cons, take-add, take-all, getD-drop}
 use lib.Dec.{lit<, leb}
-use Rattle.wire.specs.Wire.{part, put, fit, room, pad, grab, num16, num32, be1, be2, be4, allZero}
-use Rattle.wire.proofs.Laws.{by-cases, length-put, padded, length-part, part-plain, has-room, room-true}
+use Rattle.wire.specs.Wire.{part, put, fit, room, pad, num16, num32, be1, be2, be4, allZero}
+use Rattle.wire.proofs.Laws.{by-cases, length-put, padded, part-plain, has-room, room-true}
 
 -- LENGTHS: what is padded has its length, whatever it is padded from
 pub length-pad : (n : ℕ) (x : List ℕ) → length (pad n x) ≡ n
@@ -24,12 +24,6 @@ pad-whole n x h =
     let k : length x ≤ n = omega arith in
     let z : n - length x ≡ 0 = omega arith in
     padded n x k ∙ rw z (append-nil x)
-
-pub grab-part : (l : List ℕ) (at n : ℕ) → at + n ≤ length l → grab n at l ≡ part l at n
-grab-part l at n h = pad-whole n (part l at n) (length-part l at n h)
-
-pub grab-plain : (l : List ℕ) (at n : ℕ) → at + n ≤ length l → grab n at l ≡ take n (drop at l)
-grab-plain l at n h = grab-part l at n h ∙ part-plain l at n h
 
 -- what was padded is found again, and after it room that is zero
 pub part-pad : (n : ℕ) (x : List ℕ) → length x ≤ n → part (pad n x) 0 (length x) ≡ x

@@ -1,6 +1,7 @@
 use denote.Ref.{now}
-use Prim.Native.Nat.{_-_, _/_, _≤_}
+use Prim.Native.Nat.{_-_, _*_, _/_, _≤_}
 use native.Mathlib.Omega.{arith}
+use native.Mathlib.Nat.{add-sub-cancel-left}
 use mathlib.Core.Path.{_≡_, refl, _∙_}
 use lib.ListN.{length}
 use Rattle.manual.specs.Words.{hashSize}
@@ -20,14 +21,23 @@ loop-holds c =
     let x = c .before .before .args in
     (omega arith, refl, left-all (x .number) (x .curve) (length (now (x .hashes)) / hashSize) (now (x .hashes)))
 
-mul-take32 : tie.Need-mul-take32 Inv-loop μ-loop
-mul-take32 c = omega arith
+mul-from : tie.Need-mul-from Inv-loop μ-loop
+mul-from c = omega arith
 
-take32-requires : tie.Need-take32-requires Inv-loop μ-loop
-take32-requires c κs = tt
+add-hash : tie.Need-add-hash Inv-loop μ-loop
+add-hash c = omega arith
 
-put-hash-requires : tie.Need-put-hash-requires Inv-loop μ-loop
-put-hash-requires c κs = tt
+sub-hash : tie.Need-sub-hash Inv-loop μ-loop
+sub-hash c = omega arith
+
+part-hash-start : tie.Need-part-hash-start Inv-loop μ-loop
+part-hash-start c = omega arith
+
+part-hash-end : tie.Need-part-hash-end Inv-loop μ-loop
+part-hash-end c = omega arith
+
+put-one-requires : tie.Need-put-one-requires Inv-loop μ-loop
+put-one-requires c κs = tt
 
 add-i : tie.Need-add-i Inv-loop μ-loop
 add-i c = omega arith
@@ -43,9 +53,9 @@ loop-again c =
     let x = t .before .before .before .before .args in
     let h = now (x .hashes) in (
       omega arith,
-      w .put-hash .kept .0 ∙ l .inv .1,
+      w .put-one .kept .0 ∙ l .inv .1,
       turn (x .number) (x .curve) (length h / hashSize) (l .i) h (t .loop-test .taken) refl (l .inv .2)
-          (rw (w .before .take32 .ensures .0) at (w .put-hash .ensures)),
+          (rw (add-sub-cancel-left (l .i * hashSize) hashSize) at (w .put-one .ensures)),
     )
 
 same-length : tie.Need-same-length Inv-loop μ-loop
@@ -64,9 +74,12 @@ pose-hashes-spec =
     Inv-loop
     μ-loop
     loop-holds
-    mul-take32
-    take32-requires
-    put-hash-requires
+    mul-from
+    add-hash
+    sub-hash
+    part-hash-start
+    part-hash-end
+    put-one-requires
     add-i
     loop-less
     loop-again
