@@ -9,15 +9,17 @@ ghost use mathlib.Core.Path.{_≡_};
 ghost use Prim.Native.Nat.{_≤_};
 ghost use lib.ListN.{length};
 ghost use lib.Dec.{eqb, leb};
-ghost use Rattle.wire.specs.Wire.{verdict};
+ghost use Rattle.wire.specs.Wire.{verdict, Wrotes};
 ghost use Rattle.sent.specs.Sent.{viewBy};
 ghost use Rattle.card.specs.Layout.{imageSize, imageRoom};
 ghost use Rattle.card.specs.Image.{decode};
 ghost use Rattle.personalise.specs.Personalise.{personalised};
 ghost use Rattle.manual.specs.Words.{questionsRoom, responseRoom, drawSize};
+ghost use Rattle.manual.specs.Row.{eachAsked};
 ghost use Rattle.manual.specs.Commands.{row};
 ghost use Rattle.manual.specs.Settle.{holding, wordOf, refused, responseOf, outcome, settledBy, lent, settledOf, roomy, settled, settleCall};
 ghost use Rattle.manual.specs.Settle.{posedBy, askedFrom, askedFor, askCall};
+ghost use Rattle.gate.specs.Gate.{laterOf};
 ghost use Rattle.practice.specs.Carried.{Says, doneIn, answeredIn};
 
 // Numbers 1 to 4: nothing is written.
@@ -153,6 +155,23 @@ fn answer(
     carry_out(cmd, img, p, places, draw, answers, response, next)
 }
 
+// A card's image as a slice whose length the compiler knows: who is handed it reads its values without a test of the length.
+fn sized(img: &[u8]) -> &[u8]
+    requires { ⌜ length (now img) ≡ imageSize ⌝ }
+    ensures { λ r. ⌜ now r ≡ now (img .entry) ⌝ }
+{
+    &img[..layout::IMAGE_SIZE]
+}
+
+// Checks 4 to 12, of a card. Ask and settle both come here, so that the gate's function has one caller: the compiler writes it out in
+// its place, where the image's length is known.
+fn judge(cmd: Command, img: &[u8], q: &[u8], p: &[u8], whole: bool, places: &Places) -> Verdict
+    requires { ⌜ length (now img) ≡ imageSize ⌝ }
+    ensures { λ r. ⌜ r ≡ laterOf cmd whole (decode (now (img .entry))) (viewBy (now (p .entry)) (now (places .entry))) (now (q .entry)) ⌝ }
+{
+    gate::judge(cmd, sized(img), q, p, whole, places)
+}
+
 fn settle_card(
     img: &[u8],
     request: &[u8],
@@ -173,7 +192,7 @@ fn settle_card(
     let p = request::body(request);
     let mut places = [0u32; sent::PLACES];
     let whole = sent::fill(p, &mut places);
-    let v = gate::judge(cmd, img, request, p, whole, &places);
+    let v = judge(cmd, img, request, p, whole, &places);
     let Verdict::Pass(_) = v else {
         return refuse(img, word_of(v), response, next);
     };
@@ -205,8 +224,18 @@ pub fn settle(
     settle_card(image, request, draw, answers, response, next)
 }
 
+// The questions, by an image whose length is known.
+fn pose(cmd: Command, img: &[u8], p: &[u8], places: &Places, draw: &[u8], out: &mut [u8]) -> usize
+    requires { ⌜ length (now img) ≡ imageSize ⌝ }
+    ensures { λ r. ⌜ Wrotes (now (out .entry)) 0
+        (eachAsked (row cmd .questions (decode (now (img .entry)) .face) (viewBy (now (p .entry)) (now (places .entry))) (now (draw .entry))))
+        (now (out .exit)) r ⌝ }
+{
+    questions::pose(cmd, sized(img), p, places, draw, out)
+}
+
 fn ask_card(img: &[u8], request: &[u8], draw: &[u8], questions: &mut [u8]) -> Outcome
-    requires { ⌜ questionsRoom ≤ length (now questions) ⌝ }
+    requires { ⌜ (questionsRoom ≤ length (now questions)) × (length (now img) ≡ imageSize) ⌝ }
     ensures { λ r. ⌜ posedBy r (now (questions .exit))
         ≡ askedFrom (decode (now (img .entry))) (now (request .entry)) (now (draw .entry)) (now (questions .entry)) ⌝ }
 {
@@ -217,11 +246,11 @@ fn ask_card(img: &[u8], request: &[u8], draw: &[u8], questions: &mut [u8]) -> Ou
     let p = request::body(request);
     let mut places = [0u32; sent::PLACES];
     let whole = sent::fill(p, &mut places);
-    let v = gate::judge(cmd, img, request, p, whole, &places);
+    let v = judge(cmd, img, request, p, whole, &places);
     let Verdict::Pass(_) = v else {
         return told(word_of(v), 0);
     };
-    let n = questions::pose(cmd, img, p, &places, draw, questions);
+    let n = pose(cmd, img, p, &places, draw, questions);
     told(Outcome::SW_PROCESS_COMPLETED, n as u32)
 }
 

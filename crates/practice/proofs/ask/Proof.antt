@@ -2,6 +2,7 @@ use mathlib.Core.Path.{ap}
 use denote.Ref.{now}
 use Rattle.wire.proofs.Laws.{fine, failed}
 use borrow.Author.Tests.{leb-true}
+use Rattle.cards.proofs.Round.{is-card-length}
 use Rattle.manual.specs.Settle.{askedFor, posedBy}
 use borrow.Author.Needs.{needs}
 use Rattle.practice.proofs.ask.Statement.{statement}
@@ -71,7 +72,8 @@ returns-3 c = let t = c .before in
 
 ask-card-requires : tie.Need-ask-card-requires
 ask-card-requires c κs = let h = c .before .before .before .before in
-    leb-true _ _ (fine _ (h .enum-told3 .given .1) (h .before .before .has-room .ensures))
+    let e = fine _ (h .before .before .before .enum-told .given .1) (h .before .before .before .before .before .is-card .ensures) in
+    (leb-true _ _ (fine _ (h .enum-told3 .given .1) (h .before .before .has-room .ensures)), is-card-length _ e)
 
 same-length : tie.Need-same-length
 same-length c = search needs

@@ -46,7 +46,7 @@ fill-requires : tie.Need-fill-requires
 fill-requires c κs = tt
 
 judge-requires : tie.Need-judge-requires
-judge-requires c κs = tt
+judge-requires c κs = search needs
 
 enum-told-2 : tie.Need-enum-told-2
 enum-told-2 c = search needs
@@ -77,7 +77,7 @@ returns-2 c =
     ap (λ r. posedBy r (now (x .questions))) e ∙ sym (asked-stop (decode m) q (now (x .draw)) (now (x .questions)) (sym g ∙ t .enum-told3 .given .1))
 
 pose-requires : tie.Need-pose-requires
-pose-requires c κs = tt
+pose-requires c κs = search needs
 
 cast-told : tie.Need-cast-told
 cast-told c =
@@ -97,7 +97,7 @@ cast-told c =
     let v = read-view q (h .header .ensures) (k .h .given .1) (b .body .ensures) (f .fill .ensures) in
     let ok = sent-fields (decode m) q (now (x .draw)) (now (x .questions)) cmd (head-command q (h .header .ensures) (k .h .given .1))
     (sym g ∙ t .enum-told2 .given .1) in
-    let z = posed-front cmd m _ (now (x .draw)) (ap (row cmd .fields (decode m .face)) v ∙ ok) (o .pose .ensures) (s .pre) in
+    let z = posed-front cmd m _ (now (x .draw)) (ap (row cmd .fields (decode m .face)) v ∙ ok) (o .pose .ensures) (s .pre .0) in
     omega (arith, z .1)
 
 told-requires-3 : tie.Need-told-requires-3
@@ -126,7 +126,7 @@ returns-3 c =
     let v = read-view q (h .header .ensures) (k .h .given .1) (b .body .ensures) (f .fill .ensures) in
     let ek = head-command q (h .header .ensures) (k .h .given .1) in
     let ok = sent-fields (decode m) q d u cmd ek (sym g ∙ t .enum-told2 .given .1) in
-    let z = posed-front cmd m _ d (ap (row cmd .fields (decode m .face)) v ∙ ok) (o .pose .ensures) (s .pre) .0 in
+    let z = posed-front cmd m _ d (ap (row cmd .fields (decode m .face)) v ∙ ok) (o .pose .ensures) (s .pre .0) .0 in
     poses swProcessCompleted (c .told3 .ensures) z
     ∙ ap (λ y. posed swProcessCompleted (asked (row cmd .questions (decode m .face) y d)) u) v
     ∙ sym (asked-pass (decode m) q d u cmd ek (sym g ∙ t .enum-told2 .given .1))

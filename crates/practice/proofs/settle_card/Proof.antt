@@ -50,7 +50,7 @@ fill-requires : tie.Need-fill-requires
 fill-requires c κs = tt
 
 judge-requires : tie.Need-judge-requires
-judge-requires c κs = tt
+judge-requires c κs = search needs
 
 enum-told-2 : tie.Need-enum-told-2
 enum-told-2 c = search needs
