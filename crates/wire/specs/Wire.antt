@@ -73,10 +73,6 @@ joined (v ∷ vs) = v ++ joined vs
 abbrev pub pad : ℕ → List ℕ → List ℕ
 pad n x = fit (replicate n 0) 0 x
 
--- the n elements from at on, zero where they run past the end
-abbrev pub grab : ℕ → ℕ → List ℕ → List ℕ
-grab n at l = pad n (part l at n)
-
 abbrev pub num16 : List ℕ → ℕ → ℕ
 num16 l at = getD l at 0 * 256 + getD l (at + 1) 0
 

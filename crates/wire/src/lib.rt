@@ -4,7 +4,7 @@ ghost use mathlib.Core.Bool.{_&&_, _||_, not};
 ghost use Prim.Native.Nat.{_+_, _*_, _≤_, _<_};
 ghost use lib.Dec.{eqb};
 ghost use lib.ListN.{length, getD, drop, replicate};
-ghost use Rattle.wire.specs.Wire.{verdict, part, put, room, Wrote, pad, grab, num16, num32, be1, be2, be4, alike, allZero};
+ghost use Rattle.wire.specs.Wire.{verdict, part, put, room, Wrote, pad, num16, num32, be1, be2, be4, alike, allZero};
 
 // The outcome of a check.
 pub enum Check {
@@ -268,14 +268,6 @@ pub fn give8(out: &mut [u8], at: usize, a: [u8; 8]) -> usize
     ensures { λ r. ⌜ (Wrote (now (out .entry)) at a (now (out .exit)) r) × (length a ≡ 8) ⌝ }
 {
     put_bytes(out, at, &a)
-}
-
-pub fn take32(s: &[u8], at: usize) -> [u8; 32]
-    ensures { λ r. ⌜ (r ≡ grab 32 at (now (s .entry))) × (length r ≡ 32) ⌝ }
-{
-    let mut a = [0u8; 32];
-    put_bytes(&mut a, 0, part(s, at, 32));
-    a
 }
 
 pub fn give32(out: &mut [u8], at: usize, a: [u8; 32]) -> usize

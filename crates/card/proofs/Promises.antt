@@ -1,0 +1,31 @@
+-- NO TWO OUTCOMES MEET A PROMISE of card: a theorem about each public function's own contract. Assumes nothing.
+use Rattle.wire.specs.OneOutcome.{OneOutcome, plain}
+use Rattle.wire.proofs.Unique.{one-equal}
+use Rattle.card.proofs.Wallet.create as wallet-create
+use Rattle.card.proofs.Wallet.sign as wallet-sign
+use Rattle.card.proofs.Wallet.purge as wallet-purge
+use Rattle.card.proofs.Counters.signed as counters-signed
+use Rattle.card.proofs.Counters.checked as counters-checked
+use Rattle.card.proofs.Counters.validated as counters-validated
+use Rattle.card.proofs.Card.fresh as card-fresh
+
+pub wallet-create-one : OneOutcome wallet-create.ended (λ M. wallet-create.clauses {M = M})
+wallet-create-one M 𝓤 H A m r κs a g z z′ ws ws′ = plain 𝓤 (λ p q. one-equal p q)
+
+pub wallet-sign-one : OneOutcome wallet-sign.ended (λ M. wallet-sign.clauses {M = M})
+wallet-sign-one M 𝓤 H A m r κs a g z z′ ws ws′ = plain 𝓤 (λ p q. one-equal p q)
+
+pub wallet-purge-one : OneOutcome wallet-purge.ended (λ M. wallet-purge.clauses {M = M})
+wallet-purge-one M 𝓤 H A m r κs a g z z′ ws ws′ = plain 𝓤 (λ p q. one-equal p q)
+
+pub counters-signed-one : OneOutcome counters-signed.ended (λ M. counters-signed.clauses {M = M})
+counters-signed-one M 𝓤 H A m r κs a g z z′ ws ws′ = plain 𝓤 (λ p q. one-equal p q)
+
+pub counters-checked-one : OneOutcome counters-checked.ended (λ M. counters-checked.clauses {M = M})
+counters-checked-one M 𝓤 H A m r κs a g z z′ ws ws′ = plain 𝓤 (λ p q. one-equal p q)
+
+pub counters-validated-one : OneOutcome counters-validated.ended (λ M. counters-validated.clauses {M = M})
+counters-validated-one M 𝓤 H A m r κs a g z z′ ws ws′ = plain 𝓤 (λ p q. one-equal p q)
+
+pub card-fresh-one : OneOutcome card-fresh.ended (λ M. card-fresh.clauses {M = M})
+card-fresh-one M 𝓤 H A m r κs a g z z′ ws ws′ = plain 𝓤 (λ p q. one-equal p q)
