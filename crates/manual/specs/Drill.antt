@@ -2,25 +2,28 @@
 use Prim.Native.Nat.{ℕ, _+_}
 use mathlib.Core.Path.{_≡_, refl}
 use mathlib.Core.List.{List, [], _∷_, _++_}
-use mathlib.Core.Bool.{false}
-use lib.ListN.{length, replicate}
-use Rattle.wire.specs.Wire.{part, put, fit, room, joined, alike, be2, be4}
+use mathlib.Core.Bool.{true, false}
+use lib.ListN.{length, take, replicate}
+use Rattle.wire.specs.Wire.{part, put, fit, room, joined, alike, allZero, be2, be4}
 use Rattle.fields.specs.Fields.{ended, one, restFrom, runN, stepAt, fieldAt, wellFormed, viewOf, has, val, holds, Tagged, fld, headOf, tlv, each, written}
 use Rattle.fields.specs.Drill.{item}
 use Rattle.card.specs.declared.Flags.{Flags}
 use Rattle.card.specs.declared.Codes.{Codes}
 use Rattle.card.specs.declared.Face.{Face}
 use Rattle.card.specs.declared.Card.{Card}
-use Rattle.card.specs.Layout.{pinSize, cidSize, cvcSize, signatureSize}
-use Rattle.card.specs.Values.{noKey, noBlock, noLast, blockOf}
+use Rattle.card.specs.Layout.{pinSize, cidSize, cvcSize, signatureSize, imageSize, imageRoom}
+use Rattle.card.specs.Values.{heldKey, noBlock, noLast, blockOf}
+use Rattle.card.specs.Image.{encode, encCodes, encFront, encHeld, encFace, encFixed, encFlags}
+use Rattle.card.specs.Image.{encWallet, encKey, encCounters, encBlock, encIssuer, encLast, decode}
+use Rattle.card.specs.Valid.{isCard, okFace, okFront, okHeld, okFlags, okRanges, okState, okKey, keySize, okBlock, okIssuer, okLast}
+use Rattle.manual.specs.Words.{responseRoom}
 use Rattle.manual.specs.Tags.{CID, PIN1, PIN2, IssuerData, IssuerDataSignature, IssuerDataCounter, TransactionHash, TransactionHashSize}
 use Rattle.manual.specs.Row.{Matched}
 use Rattle.manual.specs.declared.Verdict.the-variants.{Stop}
 use Rattle.manual.specs.Request.{lcOf, insOf}
 use Rattle.manual.specs.Row.{plain, allowed, shaped}
-use Rattle.manual.specs.Wallet.{sign, hashQuestions}
-use Rattle.manual.specs.Storage.{writeIssuerData}
-use Rattle.manual.specs.Settle.{judged, judgedBy, sentIn, done, answered, said, Said, saidTo}
+use Rattle.manual.specs.Wallet.{hashQuestions}
+use Rattle.manual.specs.Settle.{judged, judgedBy, sentIn, done, answered, said, holding, settleCall, Settled, lent, roomy, settledOf, settled}
 
 -- A CARD to drill on: Loaded, with replay protection, wallet number 1
 abbrev cid0 : List ℕ
@@ -32,21 +35,22 @@ codes0 = record { pin1 = replicate pinSize 1; pin2 = replicate pinSize 2 }
 abbrev flags0 : Flags
 flags0 = record { reusable = 1; usecvc = 0; setpin1 = 1; setpin2 = 1; nopurge = 0; replay = 1; active = 1 }
 
+-- both user counters stand at `counted`, the stored counter at `stored`
 abbrev card0 : ℕ → ℕ → ℕ → ℕ → Card
-card0 remaining signed user counter =
+card0 remaining signed counted stored =
     record {
       face = record {
         front = record {
           fixed = record { cid = cid0; cvc = replicate cvcSize 48; curve = 1; max = 100 };
           flags = flags0;
           wallet = record { status = 2; number = 1; remaining = remaining; signed = signed };
-          key = noKey;
-          counters = record { checks = 0; validations = 0; user = user; protected = 0 };
+          key = heldKey (4 ∷ replicate 64 8);
+          counters = record { checks = 0; validations = 0; user = counted; protected = counted };
         };
         held = record {
           user = noBlock;
           protected = noBlock;
-          issuer = record { block = noBlock; signature = replicate signatureSize 0; counter = counter };
+          issuer = record { block = noBlock; signature = replicate signatureSize 0; counter = stored };
         };
         last = noLast;
       };
@@ -69,12 +73,19 @@ signing size = request 0xFB (fld TransactionHash (replicate size 3) ∷ fld Tran
 abbrev draw0 : List ℕ
 draw0 = replicate 32 0
 
--- what is said of a note and its answer, and of a SIGN over five hashes
-abbrev noted : Said
-noted = saidTo (card0 5 0 0 9) (note 10) draw0 (1 ∷ [])
+-- what settle leaves of the card's image, and the card that the next image is
+abbrev settling : Card → List ℕ → List ℕ → Settled
+settling c q a = settled (holding (encode c)) (settleCall q draw0 a (replicate responseRoom 0) (replicate imageRoom 0))
 
-abbrev five : ℕ → ℕ → ℕ → Said
-five remaining signed user = saidTo (card0 remaining signed user 0) (signing 160) draw0 (replicate 320 5)
+abbrev next : Settled → Card
+next x = decode (take imageSize (x .next))
+
+-- a note and its answer, and a SIGN over five hashes
+abbrev noted : Settled
+noted = settling (card0 5 0 0 9) (note 10) (1 ∷ [])
+
+abbrev five : ℕ → ℕ → ℕ → Settled
+five remaining signed counted = settling (card0 remaining signed counted 0) (signing 160) (replicate 320 5)
 
 pub drill :
     -- (1) `1000` is a field of length 0
@@ -91,18 +102,24 @@ pub drill :
     × ((m : Matched) (f : Face) → judged m f (0x80 ∷ 0x00 ∷ 0x00 ∷ 0x00 ∷ 0x02 ∷ 0x10 ∷ 0x00 ∷ []) ≡ Stop 2 0x6E00)
     -- (7) P1 01 with P2 02: 6982
     × ((m : Matched) (f : Face) → judged m f (0x00 ∷ 0xF2 ∷ 0x01 ∷ 0x02 ∷ 0x02 ∷ 0x10 ∷ 0x00 ∷ []) ≡ Stop 4 0x6982)
+    -- the rest on a card, by its image
+    × (isCard (encode (card0 5 0 0 9)) ≡ true)
     -- (8) protected, stored counter 9, sent 9: 6985
-    × (saidTo (card0 5 0 0 9) (note 9) draw0 (1 ∷ []) .word ≡ 0x6985)
-    -- (9) the same, sent 10, answer 1: stored
-    × (noted .word ≡ 0x9000) × (noted .face .held .issuer .counter ≡ 10) × (blockOf (noted .face .held .issuer .block) ≡ 0x4F ∷ 0x4B ∷ [])
+    × (settling (card0 5 0 0 9) (note 9) (1 ∷ []) .result .word ≡ 0x6985)
+    -- (9) the same, sent 10, answer 1: stored, with its signature
+    × (noted .result .word ≡ 0x9000) × (next noted .face .held .issuer .counter ≡ 10)
+    × (blockOf (next noted .face .held .issuer .block) ≡ 0x4F ∷ 0x4B ∷ []) × (next noted .face .held .issuer .signature ≡ replicate signatureSize 9)
     -- (10) five hashes at Remaining 1: Remaining 0, Signed_Hashes up 5
-    × (five 1 20 0 .word ≡ 0x9000) × (five 1 20 0 .face .front .wallet .remaining ≡ 0) × (five 1 20 0 .face .front .wallet .signed ≡ 25)
+    × (five 1 20 0 .result .word ≡ 0x9000) × (next (five 1 20 0) .face .front .wallet .remaining ≡ 0)
+    × (next (five 1 20 0) .face .front .wallet .signed ≡ 25)
     -- (11) six at Signed_Hashes 4,294,967,290: 6985; five: done
-    × (saidTo (card0 5 4294967290 0 0) (signing 192) draw0 (replicate 384 5) .word ≡ 0x6985)
-    × (five 5 4294967290 0 .word ≡ 0x9000) × (five 5 4294967290 0 .face .front .wallet .signed ≡ 4294967295)
-    -- (12) user counter 4,294,967,295 after a SIGN: 0
-    × (five 5 0 4294967295 .face .front .counters .user ≡ 0)
+    × (settling (card0 5 4294967290 0 0) (signing 192) (replicate 384 5) .result .word ≡ 0x6985)
+    × (five 5 4294967290 0 .result .word ≡ 0x9000) × (next (five 5 4294967290 0) .face .front .wallet .signed ≡ 4294967295)
+    -- (12) user counters at 4,294,967,295 after a SIGN: 0
+    × (next (five 5 0 4294967295) .face .front .counters .user ≡ 0) × (next (five 5 0 4294967295) .face .front .counters .protected ≡ 0)
 unfolding restFrom runN stepAt fieldAt wellFormed viewOf sentIn judgedBy has val holds part alike written each joined tlv headOf put fit room blockOf lcOf
-    insOf plain allowed said answered done shaped hashQuestions
+    insOf plain allowed said answered done shaped hashQuestions settled settledOf lent roomy encode encCodes encFront encHeld encFace encFixed encFlags
+    encWallet encKey encCounters encBlock encIssuer encLast decode isCard okFace okFront okHeld okFlags okRanges okState okKey keySize okBlock okIssuer
+    okLast allZero
 drill =
-    (refl, refl, refl, refl, (λ m f. refl), (λ m f. refl), (λ m f. refl), refl, refl, refl, refl, refl, refl, refl, refl, refl, refl, refl)
+    (refl, refl, refl, refl, (λ m f. refl), (λ m f. refl), (λ m f. refl), refl, refl, refl, refl, refl, refl, refl, refl, refl, refl, refl, refl, refl, refl)
