@@ -7,9 +7,9 @@ use native.Mathlib.Omega.{arith}
 use lib.ListN.{length, take, drop, getD}
 use lib.Dec.{lit<, lit≤, eqb}
 use borrow.Author.Tests.{eq-eqb, eqb-true}
-use Rattle.wire.specs.Wire.{part, num16, num32, be1, be2, be4}
+use Rattle.wire.specs.Wire.{part, num16, num32, be1, be2, be4, Bytes}
 use Rattle.wire.proofs.Laws.{length-part, part-plain, both-true}
-use Rattle.wire.proofs.Parts.{Bytes, peel, peel8, peel16, peel32, beside, whole-part, part8, part16, part32}
+use Rattle.wire.proofs.Parts.{peel, peel8, peel16, peel32, beside, whole-part, part8, part16, part32}
 use Rattle.card.specs.declared.Codes.{Codes}
 use Rattle.card.specs.declared.Fixed.{Fixed}
 use Rattle.card.specs.declared.Flags.{Flags}

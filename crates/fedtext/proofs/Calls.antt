@@ -16,7 +16,7 @@ use Rattle.cards.proofs.Round.{is-card-length}
 use Rattle.sheet.specs.Sheet.{firstBad, belongs, lineAfter}
 use Rattle.personalise.specs.Personalise.{sheetCard}
 use Rattle.sheets_back.proofs.Good.{sheet-is-card}
-use Rattle.manual.specs.Settle.{over, settled}
+use Rattle.manual.specs.Settle.{holding, over, settled}
 use Rattle.history.proofs.Images.{model, model-demand2}
 use Rattle.history.proofs.Theorems.{card-stays}
 use Rattle.tapline.specs.Line.{Recorded, recorded}
@@ -34,7 +34,7 @@ unfolding settled
 tap-keeps y m t h = go (isCard m) refl
   where
     go : (c : Bool) → isCard m ≡ c → length (afterTap (played y m) t .image) ≡ imageSize
-    go true e = is-card-length (afterTap (played y m) t .image) (card-stays model model-demand2 m (callOf t) e)
+    go true e = is-card-length (afterTap (played y m) t .image) (card-stays model model-demand2 (holding m) (callOf t) e)
     go false e = rw e h
 
 step-keeps : (y : Play) (m l : List ℕ) → length m ≡ imageSize → length (stepped y m l .image) ≡ imageSize

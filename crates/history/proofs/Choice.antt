@@ -3,7 +3,7 @@ use Prim.Native.Nat.{ℕ}
 use native.Mathlib.Omega.{arith}
 use mathlib.Core.Path.{_≡_, refl, sym, ap, _∙_}
 use mathlib.Core.List.{List, [], _∷_}
-use mathlib.Core.Bool.{Bool, true, false, _||_}
+use mathlib.Core.Bool.{Bool, true, false, _&&_, _||_}
 use lib.Dec.{eqb}
 use borrow.Author.Tests.{eq-eqb, eqb-true}
 pub use Rattle.wire.proofs.Laws.{by-cases, both-true}
@@ -12,6 +12,7 @@ use Rattle.manual.specs.declared.Command.the-variants.{ReadCard, CreateWallet, 
 use Rattle.manual.specs.declared.Ins.{Ins}
 use Rattle.manual.specs.declared.Ins.the-variants.{Listed, Unlisted}
 use Rattle.manual.specs.Request.{code, commands, listedIn, insOf, commandOf, command}
+use Rattle.history.specs.Demands.{isCardKind, mayAsk}
 use Rattle.story.specs.Sums.{Tap, tap, accepted, ins, did, usesWallet}
 
 pub clash : {A : Type 0} {b : Bool} → b ≡ true → b ≡ false → A
@@ -32,7 +33,7 @@ known (k ∷ ks) i = by-cases (Known i) (eqb i (code k)) (λ e. eqb-true i (code
 
 -- of a command that is listed, and is not READ_CARD
 module _ (k : Command) (listed : listedIn commands (code k) ≡ Listed k) where
-  by-ins : (q : List ℕ) → ins q ≡ code k → command q ≡ k
+  pub by-ins : (q : List ℕ) → ins q ≡ code k → command q ≡ k
   unfolding insOf
   by-ins q e = ap (λ i. commandOf (insOf i)) e ∙ ap commandOf listed
 
@@ -76,8 +77,24 @@ did-sign = did-is Sign refl
 pub did-note : (t : Tap) → did WriteIssuerData t ≡ true → (accepted (t .response) ≡ true) × (command (t .request) ≡ WriteIssuerData)
 did-note = did-is WriteIssuerData refl
 
-pub is-note : (q : List ℕ) → ins q ≡ code WriteIssuerData → command q ≡ WriteIssuerData
-is-note q e = by-ins WriteIssuerData refl q e
+-- what a request may ask is what its command may ask
+pub may-ask : (q : List ℕ) (state k : ℕ) → mayAsk (ins q) state k ≡ mayAsk (code (command q)) state k
+may-ask q state k = rw (ins-is CreateWallet refl refl q, ins-is CheckWallet refl refl q, ins-is Sign refl refl q)
+
+-- and of a purged card: what is the card key's or the issuer's
+pub may-ask-purged : (n k : ℕ) → mayAsk n 3 k ≡ isCardKind k
+may-ask-purged n k =
+    rw (never (eqb k 1) (eqb n (code CreateWallet)), never (eqb k 2) (eqb n (code Sign)), never (eqb k 3) (eqb n (code CheckWallet)))
+    (or-never (isCardKind k))
+  where
+    never : (a b : Bool) → (a && (b && false)) ≡ false
+    never true true = refl
+    never true false = refl
+    never false b = refl
+
+    or-never : (a : Bool) → (a || false) ≡ a
+    or-never true = refl
+    or-never false = refl
 
 pub uses-by : (q : List ℕ) → usesWallet (ins q) ≡ true → usesWallet (code (command q)) ≡ true
 uses-by q u = rw (← ins-is CreateWallet refl refl q, ← ins-is CheckWallet refl refl q, ← ins-is Sign refl refl q) u

@@ -7,12 +7,12 @@ use mathlib.Core.List.{List, [], _∷_, _++_}
 use mathlib.Core.Bool.{Bool, true, false, cond, not, _&&_, _||_}
 use lib.Dec.{eqb}
 use borrow.Author.Tests.{eqb-true}
-use Rattle.wire.specs.Wire.{be4}
+use Rattle.wire.specs.Wire.{be1, be4}
 use Rattle.fields.specs.Fields.{View, val, Tagged, among, firstOf}
 use Rattle.card.specs.declared.Codes.{Codes}
 use Rattle.card.specs.declared.Face.{Face}
 use Rattle.card.specs.Valid.{okFace}
-use Rattle.manual.specs.Tags.{Signature, Remaining, SignedHashes}
+use Rattle.manual.specs.Tags.{Status, Signature, Remaining, SignedHashes}
 use Rattle.manual.specs.declared.Command.{Command}
 use Rattle.manual.specs.declared.Needs.{Needs}
 use Rattle.manual.specs.Request.{code}
@@ -21,11 +21,13 @@ use Rattle.manual.specs.Storage.{guarded}
 use Rattle.manual.specs.Commands.{row}
 use Rattle.manual.specs.Settle.{sentIn, fieldsOf}
 use Rattle.story.specs.Sums.{Sheet, History, tap, toldIn, usesWallet}
+use Rattle.history.specs.Demands.{allKinds, mayAsk}
 use Rattle.history.proofs.Choice.{both-true, clash, Did}
 use Rattle.history.proofs.Seen.{look, Watched, watch, Inv}
 
--- what is told of Remaining and Signed_Hashes is what the card after holds; Remaining, of a live wallet only
+-- what is told of Status, Remaining and Signed_Hashes is what the card after holds; Remaining, of a live wallet only
 pub record Reports (f : Watched) (fs : List Tagged) : Type 0 where
+  pub state : among Status fs ≡ true → firstOf Status fs ≡ be1 (f .wallet .status)
   pub signed : among SignedHashes fs ≡ true → firstOf SignedHashes fs ≡ be4 (f .wallet .signed)
   pub remaining : among Remaining fs ≡ true → (firstOf Remaining fs ≡ be4 (f .wallet .remaining)) × (f .wallet .status ≡ 2)
 
@@ -45,6 +47,8 @@ module _ (k : Command) (f : Face) (q d a : List ℕ) where
 
   pub record Conduct : Type 0 where
     pub reports : Reports (watch g) (fieldsOf (row k) g v d a)
+    -- what it asks it may ask
+    pub asks : allKinds (mayAsk (code k) (f .front .wallet .status)) (row k .questions f v d) ≡ true
     -- card and history stay in step
     pub keeps :
         (sh : Sheet) (x : Codes) (h : History) (r : List ℕ) → Inv sh (watch f) x (look sh h) → Did k (tap q r)
@@ -55,9 +59,9 @@ module _ (k : Command) (f : Face) (q d a : List ℕ) where
     pub alive : usesWallet (code k) ≡ true → f .front .wallet .status ≡ 3 → ⊥
     pub climbs : guarded f ≡ true → Climbs f g
 
--- FOR THE COMMANDS. Fields with neither tag
+-- FOR THE COMMANDS. Fields with none of these tags
 abbrev counts : ℕ → Bool
-counts t = eqb t SignedHashes || eqb t Remaining
+counts t = eqb t Status || (eqb t SignedHashes || eqb t Remaining)
 
 abbrev pub quiet : List Tagged → Bool
 quiet [] = true
@@ -75,7 +79,11 @@ not-among t c (f ∷ fs) e =
 
 pub quietly : (f : Watched) (fs : List Tagged) → quiet fs ≡ true → Reports f fs
 quietly f fs n =
-    record { signed = λ e. clash e (not-among SignedHashes refl fs n); remaining = λ e. clash e (not-among Remaining refl fs n) }
+    record {
+      state = λ e. clash e (not-among Status refl fs n);
+      signed = λ e. clash e (not-among SignedHashes refl fs n);
+      remaining = λ e. clash e (not-among Remaining refl fs n);
+    }
 
 pub quiet-join : (fs gs : List Tagged) → quiet fs ≡ true → quiet gs ≡ true → quiet (fs ++ gs) ≡ true
 quiet-join [] gs x y = y

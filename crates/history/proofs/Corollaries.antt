@@ -1,10 +1,11 @@
 -- What follows for a SIGN, of any card that meets demand 2: its cost, the repeat for nothing, and where the signatures stand. Assumes nothing.
-use Prim.Native.Nat.{ℕ, _+_, _-_, _*_, _≤_, _<_}
+use Prim.Native.Nat.{ℕ, zero, suc, _+_, _-_, _*_, _≤_, _<_}
 use native.Mathlib.Omega.{arith}
 use mathlib.Core.Path.{_≡_, refl, sym, ap, _∙_, subst}
-use mathlib.Core.List.{List, [], _++_, append-assoc}
+use mathlib.Core.List.{List, [], _∷_, _++_, append-assoc}
 use mathlib.Core.Bool.{Bool, true, false, cond}
-use lib.ListN.{length}
+use lib.ListN.{length, take, drop}
+use lib.Seq.{take-at, drop-drop, drop-append-add}
 use lib.Dec.{leb}
 use borrow.Author.Tests.{leb-true, leb-false}
 use Rattle.wire.specs.Wire.{be2, be4, part, joined}
@@ -25,14 +26,14 @@ use Rattle.manual.specs.Tags.{CID, TransactionHash, Signature, Remaining, Signe
 use Rattle.manual.specs.declared.Command.{Command}
 use Rattle.manual.specs.declared.Command.the-variants.{Sign}
 use Rattle.manual.specs.Request.{command}
-use Rattle.manual.specs.Row.{Matched, asked}
+use Rattle.manual.specs.Row.{Matched, Question, question, asked}
 use Rattle.manual.specs.Wallet.{sign, isNew, count, hashQuestions}
 use Rattle.manual.specs.Commands.{row}
-use Rattle.manual.specs.Settle.{Call, sentIn, matched, done, saidTo, cardAfter}
+use Rattle.manual.specs.Settle.{State, holding, Call, sentIn, matched, done, saidTo, cardAfter}
 use Rattle.story.specs.Sums.{Sheet, tap, toldIn, isDone, accepted, did, signedNew, wallets}
 use Rattle.story.specs.Buffers.{questions, response, image}
-use Rattle.history.specs.Demands.{AnyCard, Demand2, signFields, tapBy, imageBy, left, played, Fresh, Demand3}
-use Rattle.history.specs.Facts.{Unchanged, Cost, place}
+use Rattle.history.specs.Demands.{AnyCard, Demand2, signFields, Event, tapBy, imageBy, left, played, Fresh, signQuestions, Demand3}
+use Rattle.history.specs.Facts.{Unchanged, Cost, place, answersOf, nth}
 use Rattle.history.proofs.Choice.{both-true, clash, did-sign}
 use Rattle.history.proofs.Taps.{Passed, carried}
 use Rattle.history.proofs.Sign.{needed}
@@ -81,43 +82,43 @@ module _ (c : Card) (q d a : List ℕ) where
 
 -- FIVE HASHES, or any number of them, cost one signature and count as five
 cost-model :
-    (m : List ℕ) (i : Call) → signedNew (tapBy model m i) ≡ true → Cost (decode m) (decode (imageBy model m i)) (count (sentIn (i .request)))
+    (m : State) (i : Call) → signedNew (tapBy model m i) ≡ true → Cost (decode (m .image)) (decode (imageBy model m i)) (count (sentIn (i .request)))
 unfolding accepted
 cost-model m i =
-    by-call (λ z. signedNew (tap (i .request) (response z)) ≡ true → Cost (decode m) (decode (image m z)) (count (sentIn (i .request)))) m i
+    by-call (λ z. signedNew (tap (i .request) (response z)) ≡ true → Cost (decode (m .image)) (decode (image (m .image) z)) (count (sentIn (i .request)))) m i
     (λ n k e. clash (rw k at e) refl)
-    (λ o _ _. rw (image-is m i o, response-is m i) (sign-cost (decode m) (i .request) (i .draw) (i .answers)))
+    (λ o _ _. rw (image-is m i o, response-is m i) (sign-cost (decode (m .image)) (i .request) (i .draw) (i .answers)))
 
 pub sign-costs :
-    (f : AnyCard) → Demand2 f → (m : List ℕ) (i : Call) → signedNew (tapBy f m i) ≡ true
-    → Cost (decode m) (decode (imageBy f m i)) (count (sentIn (i .request)))
+    (f : AnyCard) → Demand2 f → (m : State) (i : Call) → signedNew (tapBy f m i) ≡ true
+    → Cost (decode (m .image)) (decode (imageBy f m i)) (count (sentIn (i .request)))
 sign-costs =
-    every (λ f. (m : List ℕ) (i : Call) → signedNew (tapBy f m i) ≡ true → Cost (decode m) (decode (imageBy f m i)) (count (sentIn (i .request))))
+    every (λ f. (m : State) (i : Call) → signedNew (tapBy f m i) ≡ true → Cost (decode (m .image)) (decode (imageBy f m i)) (count (sentIn (i .request))))
     cost-model
 
 pub five-hashes :
-    (f : AnyCard) → Demand2 f → (m : List ℕ) (i : Call) → signedNew (tapBy f m i) ≡ true
-    → length (val TransactionHash (sentIn (i .request))) ≡ 5 * hashSize → Cost (decode m) (decode (imageBy f m i)) 5
+    (f : AnyCard) → Demand2 f → (m : State) (i : Call) → signedNew (tapBy f m i) ≡ true
+    → length (val TransactionHash (sentIn (i .request))) ≡ 5 * hashSize → Cost (decode (m .image)) (decode (imageBy f m i)) 5
 five-hashes f h m i e l =
     let n : count (sentIn (i .request)) ≡ 5 = omega arith in
-    subst (Cost (decode m) (decode (imageBy f m i))) n (sign-costs f h m i e)
+    subst (Cost (decode (m .image)) (decode (imageBy f m i))) n (sign-costs f h m i e)
 
 -- THE REPEAT costs nothing and changes nothing
 pub repeat-free :
-    (f : AnyCard) → Demand2 f → (m : List ℕ) (i : Call) → did Sign (tapBy f m i) ≡ true → isNew (sentIn (i .request)) ≡ false
-    → Unchanged m (imageBy f m i)
+    (f : AnyCard) → Demand2 f → (m : State) (i : Call) → did Sign (tapBy f m i) ≡ true → isNew (sentIn (i .request)) ≡ false
+    → Unchanged (m .image) (imageBy f m i)
 repeat-free =
-    every (λ f. (m : List ℕ) (i : Call) → did Sign (tapBy f m i) ≡ true → isNew (sentIn (i .request)) ≡ false → Unchanged m (imageBy f m i))
+    every (λ f. (m : State) (i : Call) → did Sign (tapBy f m i) ≡ true → isNew (sentIn (i .request)) ≡ false → Unchanged (m .image) (imageBy f m i))
     (λ m i e n.
     keeps-where (λ z. did Sign (tap (i .request) (response z)) ≡ true) m i
-    (λ y. repeat-card (decode m) (i .request) (i .draw) (i .answers) (rw (response-is m i) at y) n)
+    (λ y. repeat-card (decode (m .image)) (i .request) (i .draw) (i .answers) (rw (response-is m i) at y) n)
     e)
 
 -- A REFUSED COMMAND has used nothing up: no signature, no hash, no counter
 pub refusal-free :
-    (f : AnyCard) → Demand2 f → (m : List ℕ) (i : Call) → isDone (f .settle m i .result .word) ≡ false
-    → (decode (imageBy f m i) .face .front .wallet ≡ decode m .face .front .wallet)
-    × (decode (imageBy f m i) .face .front .counters ≡ decode m .face .front .counters)
+    (f : AnyCard) → Demand2 f → (m : State) (i : Call) → isDone (f .taps .settle m i .result .word) ≡ false
+    → (decode (imageBy f m i) .face .front .wallet ≡ decode (m .image) .face .front .wallet)
+    × (decode (imageBy f m i) .face .front .counters ≡ decode (m .image) .face .front .counters)
 refusal-free f h m i e =
     let u = refusal-keeps f h m i e .card in
     (ap (λ c. c .face .front .wallet) u, ap (λ c. c .face .front .counters) u)
@@ -144,29 +145,62 @@ stand cid a u v w n c l h =
     (λ j. part (written (signFields cid a u v) ++ be2 w) (sym at j) (sym l j)) ∙ value-at _ (tlv CID cid) 10 Signature a (t ++ be2 w) e z (omega arith)
 
 pub signatures-stand :
-    (f : AnyCard) → Demand2 f → (sh : Sheet) (m : List ℕ) → Fresh sh m → (is : List Call) (i : Call)
-    → signedNew (tapBy f (left f m is) i) ≡ true
-    → part (response (f .settle (left f m is) i)) (place (count (sentIn (i .request)))) (count (sentIn (i .request)) * signatureSize) ≡ i .answers
+    (f : AnyCard) → Demand2 f → (sh : Sheet) (m : List ℕ) → Fresh sh m → (es : List Event) (i : Call)
+    → signedNew (tapBy f (left f (holding m) es) i) ≡ true
+    → part (response (f .taps .settle (left f (holding m) es) i)) (place (count (sentIn (i .request)))) (count (sentIn (i .request)) * signatureSize)
+    ≡ i .answers
 unfolding fresh
-signatures-stand f h sh m e is i n =
+signatures-stand f h sh m e es i n =
     let k : ℕ = count (sentIn (i .request)) in
-    let x = demand3 f h .next sh m e is i .signs n in
+    let x = demand3 f h .next sh m e es i .signs n in
     let s = shape-decode m (is-card-length m (e .card)) in
     let c : length (sh .fixed .cid) ≡ cidSize = subst (λ (z : Card). length (z .face .front .fixed .cid) ≡ cidSize) (e .spells) (s .face .front .fixed .cid) in
     ap (λ r. part r (place k) (k * signatureSize)) (x .bytes)
-    ∙ stand (sh .fixed .cid) (i .answers) _ _ swProcessCompleted k c (x .size) (sign-costs f h (left f m is) i n .few)
+    ∙ stand (sh .fixed .cid) (i .answers) _ _ swProcessCompleted k c (x .size) (sign-costs f h (left f (holding m) es) i n .few)
 
 -- THE PROVIDER: where the answers are what one made of the questions asked, whoever it is, the signatures told are what it makes of the live wallet's
 -- number, the curve and these hashes, in order
 pub provider-signs :
-    (f : AnyCard) → Demand3 f → (sh : Sheet) (m : List ℕ) → Fresh sh m → (is : List Call) (i : Call) → (provider : List ℕ → List ℕ)
-    → signedNew (tapBy f (left f m is) i) ≡ true
+    (f : AnyCard) → Demand3 f → (sh : Sheet) (m : List ℕ) → Fresh sh m → (es : List Event) (i : Call) → (provider : List ℕ → List ℕ)
+    → signedNew (tapBy f (left f (holding m) es) i) ≡ true
     → questionsRoom ≤ length (i .buffers .page)
-    → i .answers ≡ provider (questions (f .ask (left f m is) i))
-    → val Signature (toldIn (response (f .settle (left f m is) i)))
+    → i .answers ≡ provider (questions (f .taps .ask (left f (holding m) es) i))
+    → val Signature (toldIn (response (f .taps .settle (left f (holding m) es) i)))
     ≡ provider
-    (asked (hashQuestions (wallets (played f m [] is)) (sh .fixed .curve) (count (sentIn (i .request))) (val TransactionHash (sentIn (i .request)))))
-provider-signs f h sh m e is i provider n l a = let x = h .next sh m e is i .signs n in x .answers ∙ (a ∙ ap provider (x .questions l))
+    (asked (signQuestions sh (played f (holding m) [] es) (sentIn (i .request))))
+provider-signs f h sh m e es i provider n l a = let x = h .next sh m e es i .signs n in x .answers ∙ (a ∙ ap provider (x .questions l))
+
+-- SIGNATURE k IS THE ANSWER TO THE QUESTION ON HASH k, where the provider answers each question by itself, with a signature
+nth-answer :
+    (number curve n : ℕ) (l : List ℕ) (provider : Question → List ℕ) → ((x : Question) → length (provider x) ≡ signatureSize) → (k : ℕ) → k < n
+    → nth signatureSize k (answersOf provider (hashQuestions number curve n l)) ≡ provider (question 2 number curve (nth hashSize k l ∷ []))
+unfolding hashQuestions
+nth-answer number curve zero l provider s k h = absurd (omega arith)
+nth-answer number curve (suc n) l provider s zero h =
+    take-at (provider (question 2 number curve (take hashSize l ∷ []))) _ signatureSize (s (question 2 number curve (take hashSize l ∷ [])))
+nth-answer number curve (suc n) l provider s (suc k) h =
+    let x = provider (question 2 number curve (take hashSize l ∷ [])) in
+    let e : suc k * signatureSize ≡ length x + k * signatureSize = omega (arith, s (question 2 number curve (take hashSize l ∷ []))) in
+    let u : suc k * hashSize ≡ hashSize + k * hashSize = omega arith in
+    ap (λ m. take signatureSize (drop m (x ++ answersOf provider (hashQuestions number curve n (drop hashSize l))))) e
+    ∙ ap (take signatureSize) (drop-append-add x _ (k * signatureSize))
+    ∙ nth-answer number curve n (drop hashSize l) provider s k (omega arith)
+    ∙ ap (λ m. provider (question 2 number curve (take hashSize m ∷ []))) (drop-drop (k * hashSize) hashSize l ∙ ap (λ m. drop m l) (sym u))
+
+pub signature-of-hash :
+    (f : AnyCard) → Demand3 f → (sh : Sheet) (m : List ℕ) → Fresh sh m → (es : List Event) (i : Call) (provider : Question → List ℕ)
+    → ((x : Question) → length (provider x) ≡ signatureSize) → signedNew (tapBy f (left f (holding m) es) i) ≡ true
+    → questionsRoom ≤ length (i .buffers .page)
+    → ((these : List Question) → questions (f .taps .ask (left f (holding m) es) i) ≡ asked these → i .answers ≡ answersOf provider these)
+    → (k : ℕ) → k < count (sentIn (i .request))
+    → nth signatureSize k (val Signature (toldIn (response (f .taps .settle (left f (holding m) es) i))))
+    ≡ provider
+    (question 2 (wallets (played f (holding m) [] es)) (sh .fixed .curve) (nth hashSize k (val TransactionHash (sentIn (i .request))) ∷ []))
+signature-of-hash f h sh m e es i provider s n l a k u =
+    let x = h .next sh m e es i .signs n in
+    let v = sentIn (i .request) in
+    ap (nth signatureSize k) (x .answers ∙ a _ (x .questions l))
+    ∙ nth-answer (wallets (played f (holding m) [] es)) (sh .fixed .curve) (count v) (val TransactionHash v) provider s k u
 
 -- FRESH CARDS there are: the image of a sheet in its ranges
 pub fresh-image :

@@ -18,10 +18,11 @@ use Rattle.cards.proofs.Shape.{length-encode}
 use Rattle.cards.proofs.Round.{decode-encode, shape-decode, is-card-length}
 use Rattle.manual.specs.Words.{questionsRoom, drawSize}
 use Rattle.manual.specs.Row.{asked, eachAsked}
-use Rattle.manual.specs.Settle.{holding, Call, sentIn, matched, Said, done, saidTo, cardAfter, Settled, settled, settledOf, lent, untouched, roomy, askedFor, askedOf}
+use Rattle.manual.specs.Settle.{State, holding, Call, sentIn, matched, Said, done, saidTo}
+use Rattle.manual.specs.Settle.{cardAfter, Settled, settled, settledOf, lent, untouched, roomy, askedFor, askedOf}
 use Rattle.story.specs.Sums.{Sheet, History, tap}
 use Rattle.story.specs.Buffers.{questions, response, image}
-use Rattle.history.specs.Demands.{AnyCard, Demand2, tapBy, imageBy, left, played, Fresh, OneMore, Demand3}
+use Rattle.history.specs.Demands.{AnyCard, stop, Demand2, Event, tapped, tapBy, imageBy, left, played, Fresh, OneMore, Demand3}
 use Rattle.history.proofs.Choice.{by-cases, clash}
 use Rattle.history.proofs.Taps.{by-tap}
 use Rattle.history.proofs.Seen.{look, watch, Inv, at-first}
@@ -30,7 +31,7 @@ use Rattle.history.proofs.Next.{one-more, no-more}
 
 -- THE MANUAL as a card
 abbrev pub model : AnyCard
-model = record { ask = λ m i. askedFor (holding m) i; settle = λ m i. settled (holding m) i }
+model = record { taps = record { ask = askedFor; settle = settled } }
 
 -- numbers other than 0 have no response, and leave the card
 pub quiet : (c : Card) (q d a : List ℕ) → eqb (saidTo c q d a .number) 0 ≡ false → (saidTo c q d a .response ≡ []) × (after c q d a ≡ c)
@@ -60,90 +61,120 @@ read-image m s c out nxt h = go (eqb (s .number) 0) refl
     go false e = rw (e, e) refl
 
 -- what the manual says and leaves at a call, and in its buffers
-abbrev pub saidAt : List ℕ → Call → Said
-saidAt m i = saidTo (decode m) (i .request) (i .draw) (i .answers)
+abbrev pub saidAt : State → Call → Said
+saidAt m i = saidTo (decode (m .image)) (i .request) (i .draw) (i .answers)
 
-abbrev pub cardAt : List ℕ → Call → Card
-cardAt m i = after (decode m) (i .request) (i .draw) (i .answers)
+abbrev pub cardAt : State → Call → Card
+cardAt m i = after (decode (m .image)) (i .request) (i .draw) (i .answers)
 
-abbrev pub settledAt : List ℕ → Call → Settled
-settledAt m i = settledOf (decode m) (i .request) (i .draw) (i .answers) (i .buffers .out) (i .buffers .next)
+abbrev pub settledAt : State → Call → Settled
+settledAt m i = settledOf (decode (m .image)) (i .request) (i .draw) (i .answers) (i .buffers .out) (i .buffers .next)
+
+-- NUMBERS 1 TO 3
+pub stop-none : (a b c : Bool) → stop a b c ≡ 0 → (a ≡ true) × ((b ≡ true) × (c ≡ true))
+stop-none true true true e = (refl, (refl, refl))
+stop-none true true false e = absurd (omega arith)
+stop-none true false c e = absurd (omega arith)
+stop-none false b c e = absurd (omega arith)
+
+pub stops :
+    {A : Type 0} (a b c : Bool) (x : A) (y : ℕ → A) → eqb (stop a b c) 0 ≡ false → cond a (cond b (cond c x (y 3)) (y 2)) (y 1) ≡ y (stop a b c)
+stops true true true x y e = clash refl e
+stops true true false x y e = refl
+stops true false c x y e = refl
+stops false b c x y e = refl
 
 -- THE CASES OF A CALL: numbers 1 to 3, or the card is looked at
 pub by-call :
-    (P : Settled → Type 0) (m : List ℕ) (i : Call) → ((n : ℕ) → eqb n 0 ≡ false → P (untouched n (i .buffers .out) (i .buffers .next)))
-    → (isCard m ≡ true → roomy (length (i .buffers .out)) (length (i .buffers .next)) ≡ true → eqb (length (i .draw)) drawSize ≡ true → P (settledAt m i))
-    → P (settled (holding m) i)
+    (P : Settled → Type 0) (m : State) (i : Call) → ((n : ℕ) → eqb n 0 ≡ false → P (untouched n (i .buffers .out) (i .buffers .next)))
+    → (isCard (m .image) ≡ true → roomy (length (i .buffers .out)) (length (i .buffers .next)) ≡ true → eqb (length (i .draw)) drawSize ≡ true
+    → P (settledAt m i))
+    → P (settled m i)
 unfolding settled
 by-call P m i f g =
-    by-cases P (isCard m)
+    by-cases P (isCard (m .image))
     (λ x.
     by-cases P (roomy (length (i .buffers .out)) (length (i .buffers .next)))
     (λ y. by-cases P (eqb (length (i .draw)) drawSize) (λ z. g x y z) (λ _. f 3 refl))
     (λ _. f 2 refl))
     (λ _. f 1 refl)
 
-pub response-is : (m : List ℕ) (i : Call) → response (settledAt m i) ≡ saidAt m i .response
+pub response-is : (m : State) (i : Call) → response (settledAt m i) ≡ saidAt m i .response
 unfolding settledOf
 response-is m i =
     read-response (saidAt m i) (cardAt m i) (i .buffers .out) (i .buffers .next) (eqb (saidAt m i .number) 0) refl
-    (λ e. quiet (decode m) (i .request) (i .draw) (i .answers) e .0)
+    (λ e. quiet (decode (m .image)) (i .request) (i .draw) (i .answers) e .0)
 
-module _ (m : List ℕ) (i : Call) (o : isCard m ≡ true) where
+module _ (m : State) (i : Call) (o : isCard (m .image) ≡ true) where
   pub shape-is : Shape (cardAt m i)
-  shape-is = shape-after (decode m) (i .request) (i .draw) (i .answers) (shape-decode m (is-card-length m o))
+  shape-is = shape-after (decode (m .image)) (i .request) (i .draw) (i .answers) (shape-decode (m .image) (is-card-length (m .image) o))
 
-  pub image-bytes : image m (settledAt m i) ≡ cond (eqb (saidAt m i .number) 0) (encode (cardAt m i)) m
+  pub image-bytes : image (m .image) (settledAt m i) ≡ cond (eqb (saidAt m i .number) 0) (encode (cardAt m i)) (m .image)
   unfolding settledOf
-  image-bytes = read-image m (saidAt m i) (cardAt m i) (i .buffers .out) (i .buffers .next) (length-encode (cardAt m i) shape-is)
+  image-bytes = read-image (m .image) (saidAt m i) (cardAt m i) (i .buffers .out) (i .buffers .next) (length-encode (cardAt m i) shape-is)
 
-  pub image-is : decode (image m (settledAt m i)) ≡ cardAt m i
+  pub image-is : decode (image (m .image) (settledAt m i)) ≡ cardAt m i
   image-is =
       ap decode image-bytes
-      ∙ by-cases (λ (l : List ℕ). decode l ≡ cardAt m i) (eqb (saidAt m i .number) 0) {x = encode (cardAt m i)} {y = m}
+      ∙ by-cases (λ (l : List ℕ). decode l ≡ cardAt m i) (eqb (saidAt m i .number) 0) {x = encode (cardAt m i)} {y = m .image}
       (λ _. decode-encode (cardAt m i) shape-is)
-      (λ e. sym (quiet (decode m) (i .request) (i .draw) (i .answers) e .1))
+      (λ e. sym (quiet (decode (m .image)) (i .request) (i .draw) (i .answers) e .1))
 
 -- ask: zero questions where the card has none, whatever is lent
-module _ (m : List ℕ) (i : Call) where
-  pub asks-none : xs (decode m) (i .request) (i .draw) ≡ [] → questions (askedFor (holding m) i) ≡ []
+module _ (m : State) (i : Call) where
+  pub asks-none : xs (decode (m .image)) (i .request) (i .draw) ≡ [] → questions (askedFor m i) ≡ []
   unfolding askedFor askedOf asked eachAsked joined
   asks-none e =
-      by-cases (λ z. questions z ≡ []) (isCard m)
+      by-cases (λ z. questions z ≡ []) (isCard (m .image))
       (λ _.
       by-cases (λ z. questions z ≡ []) (leb questionsRoom (length (i .buffers .page)))
       (λ _. by-cases (λ z. questions z ≡ []) (eqb (length (i .draw)) drawSize) (λ _. rw e refl) (λ _. refl))
       (λ _. refl))
       (λ _. refl)
 
+  -- in any case the questions, or none
+  asks-some : (P : List ℕ → Type 0) → P [] → P (asked (xs (decode (m .image)) (i .request) (i .draw))) → P (questions (askedFor m i))
+  unfolding askedFor askedOf
+  asks-some P none all =
+      let v : List ℕ = asked (xs (decode (m .image)) (i .request) (i .draw)) in
+      by-cases (λ z. P (questions z)) (isCard (m .image))
+      (λ _.
+      by-cases (λ z. P (questions z)) (leb questionsRoom (length (i .buffers .page)))
+      (λ _.
+      by-cases (λ z. P (questions z)) (eqb (length (i .draw)) drawSize)
+      (λ _. subst P (sym (take-at v (drop (length v) (i .buffers .page)) (length v) refl)) all)
+      (λ _. none))
+      (λ _. none))
+      (λ _. none)
+
   asks-all :
-      isCard m ≡ true → eqb (length (i .draw)) drawSize ≡ true → questionsRoom ≤ length (i .buffers .page)
-      → questions (askedFor (holding m) i) ≡ asked (xs (decode m) (i .request) (i .draw))
+      isCard (m .image) ≡ true → eqb (length (i .draw)) drawSize ≡ true → questionsRoom ≤ length (i .buffers .page)
+      → questions (askedFor m i) ≡ asked (xs (decode (m .image)) (i .request) (i .draw))
   unfolding askedFor askedOf
   asks-all e l h =
-      let v : List ℕ = asked (xs (decode m) (i .request) (i .draw)) in
+      let v : List ℕ = asked (xs (decode (m .image)) (i .request) (i .draw)) in
       rw (e, le-leb questionsRoom (length (i .buffers .page)) h, l) (take-at v (drop (length v) (i .buffers .page)) (length v) refl)
 
 -- EVERY CALL keeps card and history in step
 fits-call :
-    (sh : Sheet) (m : List ℕ) (h : History) (i : Call) → Fits sh (decode m) h → Fits sh (decode (imageBy model m i)) (tapBy model m i ∷ h)
+    (sh : Sheet) (m : State) (h : History) (i : Call) → Fits sh (decode (m .image)) h → Fits sh (decode (imageBy model m i)) (tapBy model m i ∷ h)
 fits-call sh m h i e =
-    by-call (λ z. Fits sh (decode (image m z)) (tap (i .request) (response z) ∷ h)) m i
-    (λ n k. rw k (fits-none sh (decode m) h (i .request) e))
-    (λ o _ _. rw (image-is m i o, response-is m i) (fits-tap (decode m) (i .request) (i .draw) (i .answers) sh h e))
+    by-call (λ z. Fits sh (decode (image (m .image) z)) (tap (i .request) (response z) ∷ h)) m i
+    (λ n k. rw k (fits-none sh (decode (m .image)) h (i .request) e))
+    (λ o _ _. rw (image-is m i o, response-is m i) (fits-tap (decode (m .image)) (i .request) (i .draw) (i .answers) sh h e))
 
 more-call :
-    (sh : Sheet) (m : List ℕ) (h : History) (i : Call) → Fits sh (decode m) h → OneMore sh h i (questions (askedFor (holding m) i)) (response (settled (holding m) i))
+    (sh : Sheet) (m : State) (h : History) (i : Call) → Fits sh (decode (m .image)) h → OneMore sh h (tapBy model m i) i (questions (askedFor m i))
 more-call sh m h i e =
-    by-call (λ z. OneMore sh h i (questions (askedFor (holding m) i)) (response z)) m i
-    (λ n k. rw k (no-more sh (decode m) h e i (questions (askedFor (holding m) i)) (asks-none m i)))
-    (λ x y z. rw (response-is m i) (one-more sh (decode m) h e i (questions (askedFor (holding m) i)) (asks-all m i x z) (asks-none m i)))
+    by-call (λ z. OneMore sh h (tap (i .request) (response z)) i (questions (askedFor m i))) m i
+    (λ n k. rw k (no-more sh (decode (m .image)) h e i (questions (askedFor m i)) (asks-some m i) (asks-none m i)))
+    (λ x y z. rw (response-is m i) (one-more sh (decode (m .image)) h e i (questions (askedFor m i)) (asks-some m i) (asks-all m i x z) (asks-none m i)))
 
 -- any calls keep it
 fits-all :
-    (sh : Sheet) (m : List ℕ) (h : History) (is : List Call) → Fits sh (decode m) h → Fits sh (decode (left model m is)) (played model m h is)
+    (sh : Sheet) (m : State) (h : History) (es : List Event) → Fits sh (decode (m .image)) h → Fits sh (decode (left model m es .image)) (played model m h es)
 fits-all sh m h [] e = e
-fits-all sh m h (i ∷ is) e = fits-all sh (imageBy model m i) (tapBy model m i ∷ h) is (fits-call sh m h i e)
+fits-all sh m h (tapped i ∷ es) e = fits-all sh (holding (imageBy model m i)) (tapBy model m i ∷ h) es (fits-call sh m h i e)
 
 fits-fresh : (sh : Sheet) (m : List ℕ) → Fresh sh m → Fits sh (decode m) []
 fits-fresh sh m e =
@@ -156,10 +187,18 @@ fits-fresh sh m e =
 pub model-demand3 : Demand3 model
 model-demand3 =
     record {
-      kept = λ sh m e is.
-          let i = fits-all sh m [] is (fits-fresh sh m e) .inv in
-          record { balance = i .balance; signedHashes = i .total; fits = omega (arith, i .total, i .fits) };
-      next = λ sh m e is i. more-call sh (left model m is) (played model m [] is) i (fits-all sh m [] is (fits-fresh sh m e));
+      kept = λ sh m e es.
+          let i = fits-all sh (holding m) [] es (fits-fresh sh m e) .inv in
+          record {
+            state = i .status;
+            number = i .number;
+            inForce = i .codes;
+            balance = i .balance;
+            signedHashes = i .total;
+            fits = omega (arith, i .total, i .fits);
+          };
+      next = λ sh m e es i.
+          more-call sh (left model (holding m) es) (played model (holding m) [] es) i (fits-all sh (holding m) [] es (fits-fresh sh m e));
     }
 
 -- and demand 2, which is to be the manual
@@ -168,4 +207,4 @@ model-demand2 = record { asks = λ m i. refl; settles = λ m i. refl }
 
 -- a card that meets demand 2 is the manual
 pub is-model : (f : AnyCard) → Demand2 f → model ≡ f
-is-model f h = λ j. record { ask = λ m i. sym (h .asks m i) j; settle = λ m i. sym (h .settles m i) j }
+is-model f h = λ j. record { taps = record { ask = λ m i. sym (h .asks m i) j; settle = λ m i. sym (h .settles m i) j } }

@@ -10,9 +10,10 @@ pub mod Commands
 pub mod Cards
 pub mod Next
 pub mod Images
-pub mod Theorems
 pub mod Agrees
+pub mod Theorems
 pub mod Corollaries
 pub mod Notes
 pub mod Story
 pub mod Rejected
+pub mod Proud

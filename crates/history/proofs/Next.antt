@@ -1,31 +1,35 @@
 -- What demand 3 says of one more call, on a card that fits its history. Assumes nothing.
-use Prim.Native.Nat.{ℕ, _+_, _-_, _≤_}
+use Prim.Native.Nat.{ℕ, _+_, _-_, _≤_, _<_}
 use native.Mathlib.Omega.{arith}
 use mathlib.Core.Path.{_≡_, refl, sym, ap, _∙_, subst}
-use mathlib.Core.List.{List, [], _∷_, _++_}
-use mathlib.Core.Bool.{true, false}
+use mathlib.Core.List.{List, [], _∷_, _++_, append-assoc}
+use mathlib.Core.Bool.{Bool, true, false, cond, not}
 use lib.ListN.{length}
-use Rattle.wire.specs.Wire.{be2, be4}
-use Rattle.fields.specs.Fields.{View, has, val, written, among, firstOf}
+use borrow.Author.Tests.{ltb-true, eqb-true}
+use Rattle.wire.specs.Wire.{be1, be2, be4, joined}
+use Rattle.fields.specs.Fields.{View, has, val, holds, tlv, each, written, among, firstOf}
 use Rattle.card.specs.declared.Face.{Face}
 use Rattle.card.specs.declared.Card.{Card}
-use Rattle.card.specs.Values.{lastOf}
+use Rattle.card.specs.Layout.{top16}
+use Rattle.card.specs.Values.{u16, lastOf}
 use Rattle.manual.specs.Words.{swProcessCompleted, questionsRoom}
-use Rattle.manual.specs.Tags.{TransactionHash, Signature, Remaining, SignedHashes}
+use Rattle.manual.specs.Tags.{CID, CVC, Status, Challenge, TransactionHash, Signature, Remaining, SignedHashes}
 use Rattle.manual.specs.declared.Command.{Command}
-use Rattle.manual.specs.declared.Command.the-variants.{Sign}
-use Rattle.manual.specs.Request.{command}
-use Rattle.manual.specs.Row.{Matched, asked, shaped}
-use Rattle.manual.specs.Wallet.{sign, isNew, count, hashQuestions}
+use Rattle.manual.specs.declared.Command.the-variants.{CreateWallet, CheckWallet, Sign}
+use Rattle.manual.specs.Request.{code, command}
+use Rattle.manual.specs.Row.{Matched, Question, question, asked, eachAsked, shaped, Row, asksCvc}
+use Rattle.manual.specs.Wallet.{createWallet, sign, isNew, count, hashQuestions}
+use Rattle.manual.specs.Checking.{checkWallet, keyAsked, keyMessage, salt}
 use Rattle.manual.specs.Commands.{row}
 use Rattle.manual.specs.Settle.{Call, sentIn, matched, fieldsOf, done, saidTo}
 use Rattle.facts.proofs.Facts.{Small, small-shape, facts, writes}
-use Rattle.story.specs.Sums.{Sheet, History, tap, toldIn, accepted, ins, did, signedNew, everPurged, made, total, given, usesWallet}
-use Rattle.history.specs.Demands.{signFields, signResponse, Rightful, OneMore}
-use Rattle.history.proofs.Choice.{both-true, clash, did-sign, uses-by}
-use Rattle.history.proofs.Taps.{has-told, val-told, Passed, by-tap, Carried, carried}
+use Rattle.story.specs.Sums.{Sheet, History, tap, toldIn, accepted, ins, did, signedNew, status, wallets, everPurged, made, total, given, usesWallet}
+use Rattle.history.specs.Demands.{signFields, signResponse, Entitled, NewSign, signQuestions, Asks, nothing, due, allKinds, Poses, isCardKind, mayAsk}
+use Rattle.history.specs.Demands.{Rightful, OneMore}
+use Rattle.history.proofs.Choice.{both-true, or-false, clash, did-sign, by-ins, may-ask, may-ask-purged, uses-by}
+use Rattle.history.proofs.Taps.{has-told, val-told, Passed, by-tap, Carried, carried, lists}
 use Rattle.history.proofs.Seen.{look, watch, Inv}
-use Rattle.history.proofs.Conduct.{Reports}
+use Rattle.history.proofs.Conduct.{Reports, loaded, emptied}
 use Rattle.history.proofs.Commands.{conduct}
 use Rattle.history.proofs.Sign.{needed, still, Signed, new-signed, no-question}
 use Rattle.history.proofs.Cards.{after, xs, Fits, fits-tap}
@@ -112,8 +116,100 @@ module _ (sh : Sheet) (c : Card) (h : History) (i : Fits sh c h) (t : Call) wher
       let y = reports-by e .remaining (sym (has-by Remaining e) ∙ z) in
       val-by Remaining e ∙ (y .0 ∙ ap be4 (remains e (y .1)))
 
+  state-by : accepted r ≡ true → has Status (toldIn r) ≡ true → val Status (toldIn r) ≡ be1 (status sh (tap q r ∷ h))
+  state-by e z = val-by Status e ∙ (reports-by e .state (sym (has-by Status e) ∙ z) ∙ ap be1 (inv-after e .status))
+
   signed-by : accepted r ≡ true → has SignedHashes (toldIn r) ≡ true → val SignedHashes (toldIn r) ≡ be4 (total (tap q r ∷ h))
   signed-by e z = val-by SignedHashes e ∙ (reports-by e .signed (sym (has-by SignedHashes e) ∙ z) ∙ ap be4 (inv-after e .total))
+
+  -- every response begins with CID
+  cid-by : accepted r ≡ true → (rest : List ℕ) × (r ≡ tlv CID (sh .fixed .cid) ++ rest)
+  unfolding done written each joined
+  cid-by e =
+      let x = tlv CID (g .front .fixed .cid) in
+      let y = joined (each (row k .fieldsOut g v d a)) in
+      let w = be2 (swProcessCompleted + row k .more m) in (
+        y ++ w,
+        ap (λ z. z .response) (carried-by e .isDone) ∙ append-assoc x y w ∙ ap (λ z. tlv CID (z .cid) ++ (y ++ w)) (inv-after e .fixed),
+      )
+
+  -- WHAT IS DUE to a request that passes checks 1 to 12, by the row of its command
+  entitled :
+      (j : Row) (wanted : ℕ) (secret : Bool) → j .needs .asleep ≡ false → (secret ≡ true → j .pin2 v ≡ true) → (secret ≡ true → j .needs .cvc ≡ true)
+      → f .front .wallet .status ≡ wanted → Passed j m f v → Entitled sh h v wanted secret
+  entitled j wanted secret awake two three s p =
+      let z = i .inv in
+      record {
+        activated = sym (z .active) ∙ eqb-true (f .front .flags .active) 1 (or-false (j .needs .asleep) _ (p .awake) awake);
+        state = sym (z .status) ∙ s;
+        pin1 = rw (← z .codes) (p .pin1);
+        pin2 = λ e. rw (← z .codes) (or-false (not (j .pin2 v)) (m .pin2) (p .pin2) (ap not (two e)));
+        cvc = λ e u.
+            let w : asksCvc j f ≡ true = rw (three e, z .usecvc ∙ u) refl in
+            rw (← z .fixed) (or-false (not (asksCvc j f)) (holds CVC v (f .front .fixed .cvc)) (p .cvc) (ap not w));
+      }
+
+  new-sign : Passed sign m f v → isNew v ≡ true → NewSign sh h v
+  new-sign p n =
+      let z = needed m f v p in
+      let b : f .front .wallet .remaining + made h ≡ sh .fixed .max = i .inv .balance (sym (i .inv .status) ∙ z .alive) in
+      record {
+        entitled = entitled sign 2 true refl (λ _. refl) (λ _. refl) (z .alive) p;
+        remains = omega (arith, z .some n);
+        isNew = n;
+        hashes = p .fields;
+      }
+
+  -- the wallet's number and the curve are those of the history and the sheet
+  same-questions : hashQuestions (f .front .wallet .number) (f .front .fixed .curve) (count v) (val TransactionHash v) ≡ signQuestions sh h v
+  same-questions = λ n. hashQuestions (i .inv .number n) (i .inv .fixed n .curve) (count v) (val TransactionHash v)
+
+  -- of a tap of this command: nothing, or what is due
+  asks-by :
+      (j : Command) (Due : Type 0) (these : List Question) → k ≡ j → (Passed (row j) m f v → Asks Due these (asked (row j .questions f v d)))
+      → Asks Due these (asked (xs c q d))
+  unfolding asked eachAsked joined
+  asks-by j Due these e may =
+      let by : Passed (row k) m f v → Asks Due these (asked (row k .questions f v d)) =
+      subst (λ l. Passed (row l) m f v → Asks Due these (asked (row l .questions f v d))) (sym e) may in
+      by-tap (λ _ y. Asks Due these (asked y)) m f q d a (λ w y z. nothing refl) (λ p s z. by p) (λ p g. by p)
+
+  sign-due : (b : Bool) → isNew v ≡ b → Passed sign m f v → Asks (NewSign sh h v) (signQuestions sh h v) (asked (sign .questions f v d))
+  unfolding asked eachAsked joined
+  sign-due true n p = rw n (due (new-sign p n) (ap asked same-questions))
+  sign-due false n p = rw n (nothing refl)
+
+  make-due :
+      Passed createWallet m f v
+      → Asks (Entitled sh h v 1 true) (question 1 (wallets h + 1) (sh .fixed .curve) [] ∷ []) (asked (createWallet .questions f v d))
+  make-due p =
+      let n : f .front .wallet .number < top16 = ltb-true (f .front .wallet .number) top16 (p .conditions) in
+      let e : u16 (f .front .wallet .number + 1) ≡ wallets h + 1 = omega (arith, i .inv .number) in
+      due (entitled createWallet 1 true refl (λ _. refl) (λ _. refl) (emptied (createWallet .needs) _ (p .allows) refl refl) p)
+      (λ l. asked (question 1 (e l) (i .inv .fixed l .curve) [] ∷ []))
+
+  -- with tag 14 also the key by the card key
+  abbrev keyQuestions : List Question
+  keyQuestions = cond (keyAsked v) (question 4 (f .front .wallet .number) (f .front .fixed .curve) (keyMessage f v d) ∷ []) []
+
+  check-due :
+      Passed checkWallet m f v
+      → Asks (Entitled sh h v 2 false) (question 3 (wallets h) (sh .fixed .curve) (val Challenge v ∷ salt d ∷ []) ∷ keyQuestions)
+      (asked (checkWallet .questions f v d))
+  check-due p =
+      due
+      (entitled checkWallet 2 false refl (λ e. clash e refl) (λ e. clash e refl) (loaded (checkWallet .needs) _ (p .allows) refl refl) p)
+      (λ l. asked (question 3 (i .inv .number l) (i .inv .fixed l .curve) (val Challenge v ∷ salt d ∷ []) ∷ keyQuestions))
+
+  -- the kinds that are asked
+  kinds-by : allKinds (mayAsk (ins q) (status sh h)) (xs c q d) ≡ true
+  kinds-by =
+      let may : Passed (row k) m f v → allKinds (mayAsk (ins q) (status sh h)) (row k .questions f v d) ≡ true =
+      λ p.
+      (λ n. allKinds (λ j. may-ask q (status sh h) j n) (row k .questions f v d))
+      ∙ (λ n. allKinds (mayAsk (code k) (sym (i .inv .status) n)) (row k .questions f v d))
+      ∙ conduct k m f q d a p .asks in
+      by-tap (λ _ y. allKinds (mayAsk (ins q) (status sh h)) y ≡ true) m f q d a (λ w y z. refl) (λ p s z. may p) (λ p g. may p)
 
   -- SIGN, new or again
   sign-bytes : did Sign (tap q r) ≡ true → r ≡ signResponse sh (tap q r ∷ h) (lastOf (g .last))
@@ -139,26 +235,20 @@ module _ (sh : Sheet) (c : Card) (h : History) (i : Fits sh c h) (t : Call) wher
         carried-by (y .0) .isAsked ∙ subst (λ j. row j .questions f v d ≡ []) (sym (y .1)) (no-question f v d n),
       )
 
-  rightful : (x : List ℕ) → (questionsRoom ≤ length (t .buffers .page) → x ≡ asked (xs c q d)) → signedNew (tap q r) ≡ true → Rightful sh h t x r
+  rightful :
+      (x : List ℕ) → (questionsRoom ≤ length (t .buffers .page) → x ≡ asked (xs c q d)) → signedNew (tap q r) ≡ true → Rightful sh h (tap q r) t x
   rightful x hx e =
       let w = both-true (did Sign (tap q r)) (isNew v) e in
       let y = did-sign (tap q r) (w .0) in
       let b = carried-by (y .0) in
-      let z = needed m f v (subst (λ j. Passed (row j) m f v) (y .1) (b .passed)) in
       let s =
       subst
       (λ j. Passed (row j) m f v → shaped (row j .questions f v d) a ≡ true → Signed f v a (row j .questions f v d) (row j .next f v a))
       (sym (y .1)) (λ o. new-signed m f v d a o (w .1)) (b .passed) (b .shape) in
-      let j = i .inv in
       let u : given (tap q r ∷ h) ≡ val Signature (toldIn r) = rw e in
       record {
-        activated = sym (ap (λ z. z .active) (j .flags)) ∙ z .active;
-        alive = sym (j .status) ∙ z .alive;
-        pin1 = rw (← j .codes) (z .pin1);
-        pin2 = rw (← j .codes) (z .pin2);
-        cvc = λ u. rw (← j .fixed) (z .cvc (ap (λ z. z .usecvc) (j .flags) ∙ u));
-        questions = λ u.
-            hx u ∙ ap asked (b .isAsked ∙ (s .questions ∙ (λ n. hashQuestions (j .number n) (j .fixed n .curve) (count v) (val TransactionHash v))));
+        isDue = new-sign (subst (λ j. Passed (row j) m f v) (y .1) (b .passed)) (w .1);
+        questions = λ u. hx u ∙ ap asked (b .isAsked ∙ (s .questions ∙ same-questions));
         size = s .size;
         answers = sym u ∙ (sym (inv-after (y .0) .last) ∙ s .last);
         bytes = sign-bytes (w .0) ∙ ap (signResponse sh (tap q r ∷ h)) (s .last);
@@ -172,26 +262,68 @@ module _ (sh : Sheet) (c : Card) (h : History) (i : Fits sh c h) (t : Call) wher
       (λ p z k. absurd (no-way p))
       (λ p k. absurd (no-way p))
 
-  pub one-more : (x : List ℕ) → (questionsRoom ≤ length (t .buffers .page) → x ≡ asked (xs c q d)) → (xs c q d ≡ [] → x ≡ []) → OneMore sh h t x r
-  one-more x hx h0 =
-      record {
-        signs = rightful x hx;
-        repeats = λ e n. let y = repeats-by e n in (y .0, h0 (y .1));
-        pin1 = λ e. rw (← i .inv .codes) (carried-by e .passed .pin1);
-        remaining = remaining-by;
-        signedHashes = signed-by;
-        ended = λ n e u. let y = ended-by n e u in (y .0, h0 (y .1));
-      }
+  -- WHAT IS ASKED, whatever the response: x is the questions, or none
+  module _ (x : List ℕ) (some : (P : List ℕ → Type 0) → P [] → P (asked (xs c q d)) → P x) where
+    sign-asks : ins q ≡ code Sign → Asks (NewSign sh h v) (signQuestions sh h v) x
+    sign-asks e = some (Asks _ _) (nothing refl) (asks-by Sign _ _ (by-ins Sign refl q e) (sign-due (isNew v) refl))
 
-  -- where settle said one of numbers 1 to 3
-  pub no-more : (x : List ℕ) → (xs c q d ≡ [] → x ≡ []) → OneMore sh h t x []
-  unfolding accepted
-  no-more x h0 =
-      record {
-        signs = λ e. clash e refl;
-        repeats = λ e n. clash e refl;
-        pin1 = λ e. clash e refl;
-        remaining = λ e. clash e refl;
-        signedHashes = λ e. clash e refl;
-        ended = λ n e u. (refl, h0 (ended-by n e u .1));
-      }
+    make-asks : ins q ≡ code CreateWallet → Asks (Entitled sh h v 1 true) (question 1 (wallets h + 1) (sh .fixed .curve) [] ∷ []) x
+    make-asks e = some (Asks _ _) (nothing refl) (asks-by CreateWallet _ _ (by-ins CreateWallet refl q e) make-due)
+
+    check-asks :
+        ins q ≡ code CheckWallet
+        → (more : List Question)
+        × Asks (Entitled sh h v 2 false) (question 3 (wallets h) (sh .fixed .curve) (val Challenge v ∷ salt d ∷ []) ∷ more) x
+    check-asks e = (keyQuestions, some (Asks _ _) (nothing refl) (asks-by CheckWallet _ _ (by-ins CheckWallet refl q e) check-due))
+
+    posing : (p : ℕ → Bool) → allKinds p (xs c q d) ≡ true → Poses p x
+    unfolding asked eachAsked joined
+    posing p e =
+        some (Poses p) (record { these = []; bytes = refl; kinds = refl }) (record { these = xs c q d; bytes = refl; kinds = e })
+
+    sparing : sh .flags .reusable ≡ 0 → everPurged h ≡ true → Poses isCardKind x
+    sparing n e =
+        let s : status sh h ≡ 3 = i .inv .purged n e in
+        posing isCardKind
+        ((λ l. allKinds (λ j. sym (may-ask-purged (ins q) j) l) (xs c q d)) ∙ (λ l. allKinds (mayAsk (ins q) (sym s l)) (xs c q d)) ∙ kinds-by)
+
+    pub one-more :
+        (questionsRoom ≤ length (t .buffers .page) → x ≡ asked (xs c q d)) → (xs c q d ≡ [] → x ≡ []) → OneMore sh h (tap q r) t x
+    one-more hx h0 =
+        record {
+          signAsks = sign-asks;
+          makeAsks = make-asks;
+          checkAsks = check-asks;
+          poses = posing _ kinds-by;
+          spared = sparing;
+          signs = rightful x hx;
+          repeats = λ e n. let y = repeats-by e n in (y .0, h0 (y .1));
+          rows = lists m f q d a;
+          pin1 = λ e _. rw (← i .inv .codes) (carried-by e .passed .pin1);
+          cid = λ e _. cid-by e;
+          state = state-by;
+          remaining = remaining-by;
+          signedHashes = signed-by;
+          ended = λ n e u. let y = ended-by n e u in (y .0, h0 (y .1));
+        }
+
+    -- where settle said one of numbers 1 to 3
+    pub no-more : (xs c q d ≡ [] → x ≡ []) → OneMore sh h (tap q []) t x
+    unfolding accepted
+    no-more h0 =
+        record {
+          signAsks = sign-asks;
+          makeAsks = make-asks;
+          checkAsks = check-asks;
+          poses = posing _ kinds-by;
+          spared = sparing;
+          signs = λ e. clash e refl;
+          repeats = λ e n. clash e refl;
+          rows = λ e. clash e refl;
+          pin1 = λ e. clash e refl;
+          cid = λ e. clash e refl;
+          state = λ e. clash e refl;
+          remaining = λ e. clash e refl;
+          signedHashes = λ e. clash e refl;
+          ended = λ n e u. (refl, h0 (ended-by n e u .1));
+        }

@@ -3,34 +3,43 @@
 use Prim.Native.Nat.{ℕ, _≤_}
 use native.Mathlib.Omega.{arith}
 use mathlib.Core.Path.{_≡_, refl, sym, ap, _∙_, subst}
-use mathlib.Core.List.{List, [], _∷_}
-use mathlib.Core.Bool.{true, false}
+use mathlib.Core.List.{List, [], _∷_, _++_}
+use mathlib.Core.Bool.{Bool, true, false, cond, not, _||_}
 use lib.ListN.{length}
-use lib.Dec.{eqb}
+use lib.Dec.{ltb, eqb}
+use borrow.Author.Tests.{le-ltb}
+use Rattle.fields.specs.Fields.{holds, wellFormed}
 use Rattle.card.specs.declared.Face.{Face}
 use Rattle.card.specs.declared.Card.{Card}
 use Rattle.card.specs.Image.{decode}
 use Rattle.card.specs.Valid.{isCard}
-use Rattle.manual.specs.Words.{drawSize}
+use Rattle.manual.specs.Words.{drawSize, swInvalidParams, swInvalidStatus}
+use Rattle.manual.specs.Tags.{CVC}
+use Rattle.manual.specs.declared.Command.{Command}
 use Rattle.manual.specs.declared.Command.the-variants.{WriteIssuerData}
-use Rattle.manual.specs.Request.{command}
-use Rattle.manual.specs.Row.{Question}
-use Rattle.manual.specs.Storage.{guarded, sentCounter}
+use Rattle.manual.specs.declared.Verdict.{Verdict}
+use Rattle.manual.specs.declared.Verdict.the-variants.{Pass, Stop}
+use Rattle.manual.specs.Request.{command, payload}
+use Rattle.manual.specs.Row.{Question, Rule, rule, gateOf, asksCvc, headRules, formRules, entryRules, rules, passed}
+use Rattle.manual.specs.Storage.{guarded, sentCounter, writeIssuerData}
 use Rattle.manual.specs.Commands.{row}
 use Rattle.manual.specs.Row.{Matched}
-use Rattle.manual.specs.Settle.{Call, sentIn, matched, Said, refused, done, saidTo, cardAfter, settled, settledOf, lent, roomy}
+use Rattle.manual.specs.Settle.{State, holding, Call, sentIn, matched, Said, refused, done, judgedBy, said, saidBy, saidTo}
+use Rattle.manual.specs.Settle.{cardAfter, settled, settledOf, lent, roomy}
 use Rattle.story.specs.Sums.{tap, isDone, accepted, did}
 use Rattle.story.specs.Buffers.{response, image}
-use Rattle.history.specs.Demands.{AnyCard, Demand2, tapBy, imageBy, left}
-use Rattle.history.specs.Facts.{isRefusal, Refused, NoteUpTo, noteCounter, protected}
-use Rattle.history.proofs.Choice.{clash, did-note, is-note}
+use Rattle.history.specs.Demands.{AnyCard, isRefusal, settleStop, Demand2, Event, tapped, tapBy, imageBy, left}
+use Rattle.history.specs.Facts.{Refused, NoteUpTo, noteCounter, protected}
+use Rattle.history.specs.Wrong.{oldRows}
+use Rattle.history.specs.Wrong.{judgedBy as rowsJudge}
+use Rattle.history.proofs.Choice.{clash, did-note, by-ins}
 use Rattle.history.proofs.Taps.{accepts, Passed, by-outcome, by-tap, carried}
 use Rattle.history.proofs.Conduct.{Climbs, same}
 use Rattle.history.proofs.Storage.{above}
 use Rattle.history.proofs.Commands.{conduct}
 use Rattle.history.proofs.Cards.{after, xs}
-use Rattle.history.proofs.Images.{model, saidAt, cardAt, by-call, response-is, image-is, asks-none}
-use Rattle.history.proofs.Theorems.{every, stop-none, keeps-where}
+use Rattle.history.proofs.Images.{model, stop-none, saidAt, cardAt, settledAt, by-call, response-is, image-is, asks-none}
+use Rattle.history.proofs.Theorems.{every, keeps-where}
 
 -- A NOTE THAT IS TOO OLD, on a card: refused by checks 1 to 12
 record Old (f : Face) (s : Said) (x : List Question) : Type 0 where
@@ -56,11 +65,17 @@ word-is : (s : Said) (w : ℕ) (f : Face) (c : Card) (out nxt : List ℕ) → s 
 unfolding lent
 word-is s w f c out nxt e = ap (λ z. lent z c out nxt .result .word) e
 
-old-model : (m : List ℕ) (i : Call) → protected m ≡ true → NoteUpTo (noteCounter m) i → Refused model m i
+looked :
+    (s : State) (i : Call) → isCard (s .image) ≡ true → roomy (length (i .buffers .out)) (length (i .buffers .next)) ≡ true
+    → eqb (length (i .draw)) drawSize ≡ true → settled s i ≡ settledAt s i
+unfolding settled
+looked s i x y z = rw (x, y, z) refl
+
+old-model : (m : State) (i : Call) → protected (m .image) ≡ true → NoteUpTo (noteCounter (m .image)) i → Refused model m i
 unfolding settled settledOf accepted
 old-model m i g n =
     let s : Said = saidAt m i in
-    let o = old-card (decode m) (i .request) (i .draw) (i .answers) g (is-note (i .request) (n .command)) (n .counter) in
+    let o = old-card (decode (m .image)) (i .request) (i .draw) (i .answers) g (by-ins WriteIssuerData refl (i .request) (n .command)) (n .counter) in
     record {
       asks = asks-none m i (o .asks);
       answer =
@@ -68,15 +83,67 @@ old-model m i g n =
           (λ n k. rw k refl)
           (λ _ _ _. ap accepted (response-is m i) ∙ (ap (λ z. accepted (z .response)) (o .said) ∙ (accepts [] (s .word) ∙ o .refusal)));
       word = λ e.
-          let z = stop-none (isCard m) (roomy (length (i .buffers .out)) (length (i .buffers .next))) (eqb (length (i .draw)) drawSize) e in
+          let z = stop-none (isCard (m .image)) (roomy (length (i .buffers .out)) (length (i .buffers .next))) (eqb (length (i .draw)) drawSize) e in
           rw (z .0, z .1 .0, z .1 .1)
-          (ap isRefusal (word-is s (s .word) (decode m .face) (cardAt m i) (i .buffers .out) (i .buffers .next) (o .said)) ∙ o .word);
-      stays = keeps-where (λ _. Unit {0}) m i (λ _. ap (λ z. cardAfter z (decode m .codes) (i .request)) (o .said)) tt;
+          (ap isRefusal (word-is s (s .word) (decode (m .image) .face) (cardAt m i) (i .buffers .out) (i .buffers .next) (o .said)) ∙ o .word);
+      stays = keeps-where (λ _. Unit {0}) m i (λ _. ap (λ z. cardAfter z (decode (m .image) .codes) (i .request)) (o .said)) tt;
     }
 
 -- A NOTE WHOSE COUNTER IS NOT ABOVE THE STORED ONE is refused, and the stored one stays
-pub old-note : (f : AnyCard) → Demand2 f → (m : List ℕ) (i : Call) → protected m ≡ true → NoteUpTo (noteCounter m) i → Refused f m i
-old-note = every (λ f. (m : List ℕ) (i : Call) → protected m ≡ true → NoteUpTo (noteCounter m) i → Refused f m i) old-model
+pub old-note : (f : AnyCard) → Demand2 f → (m : State) (i : Call) → protected (m .image) ≡ true → NoteUpTo (noteCounter (m .image)) i → Refused f m i
+old-note = every (λ f. (m : State) (i : Call) → protected (m .image) ≡ true → NoteUpTo (noteCounter (m .image)) i → Refused f m i) old-model
+
+-- A NOTE THAT IS RIGHT IN ALL BUT ITS COUNTER, so that the old practice card took it, gets 6985 and no other word
+last-fails :
+    (rs : List Rule) (g : Verdict) {k : Command} (w : ℕ) → gateOf (rs ++ (rule 12 true w ∷ [])) g ≡ Pass k
+    → gateOf (rs ++ (rule 12 false w ∷ [])) g ≡ Stop 12 w
+last-fails [] g w = λ e. refl
+last-fails (r ∷ rs) g {k} w = go (r .ok) (last-fails rs g w)
+  where
+    go : {x y : Verdict} (b : Bool) → (x ≡ Pass k → y ≡ Stop 12 w) → cond b x (Stop (r .check) (r .word)) ≡ Pass k
+        → cond b y (Stop (r .check) (r .word)) ≡ Stop 12 w
+    go true f e = f e
+    go false f e = let z : _≡_ {A = ℕ} 0 1 = cc in absurd (omega arith)
+
+module _ (c : Card) (q d a : List ℕ) where
+  abbrev m : Matched
+  m = matched (c .codes) (sentIn q)
+
+  -- all rules but that of check 12
+  abbrev others : List Rule
+  others =
+      let v = sentIn q in
+      let r = writeIssuerData in
+      let o = rule 10 (not (r .pin2 v) || m .pin2) swInvalidParams
+      ∷ rule 10 (not (asksCvc r (c .face)) || holds CVC v (c .face .front .fixed .cvc)) swInvalidParams ∷ rule 11 (r .fields (c .face) v) swInvalidParams
+      ∷ [] in
+      headRules q ++ (formRules r (c .face) (wellFormed (payload q)) v q ++ (entryRules r m (c .face) v ++ o))
+
+  late-card :
+      guarded (c .face) ≡ true → command q ≡ WriteIssuerData → sentCounter (sentIn q) ≤ c .face .held .issuer .counter → {k : Command}
+      → rowsJudge oldRows c q ≡ Pass k → saidTo c q d a ≡ refused swInvalidStatus (c .face)
+  unfolding said judgedBy
+  late-card g e l t =
+      let n = c .face .held .issuer .counter in
+      let x : ltb n (sentCounter (sentIn q)) ≡ false = le-ltb n (sentCounter (sentIn q)) l in
+      let o : writeIssuerData .conditions m (c .face) (sentIn q) ≡ false = rw (g, x) refl in
+      let y : gateOf (others ++ (rule 12 true swInvalidStatus ∷ [])) (passed q) ≡ Pass _ =
+      ap (λ j. gateOf (rules (oldRows j) m (c .face) (wellFormed (payload q)) (sentIn q) q) (passed q)) (sym e) ∙ t in
+      let z : gateOf (rules (row (command q)) m (c .face) (wellFormed (payload q)) (sentIn q) q) (passed q) ≡ Stop 12 swInvalidStatus =
+      ap (λ j. gateOf (rules (row j) m (c .face) (wellFormed (payload q)) (sentIn q) q) (passed q)) e
+      ∙ ap (λ b. gateOf (others ++ (rule 12 b swInvalidStatus ∷ [])) (passed q)) o
+      ∙ last-fails others (passed q) swInvalidStatus y in
+      ap (λ w. saidBy w m (c .face) q d a) z
+
+pub late-note :
+    (f : AnyCard) → Demand2 f → (s : State) (i : Call) → protected (s .image) ≡ true → NoteUpTo (noteCounter (s .image)) i → settleStop s i ≡ 0
+    → {k : Command} → rowsJudge oldRows (decode (s .image)) (i .request) ≡ Pass k → f .taps .settle s i .result .word ≡ swInvalidStatus
+unfolding settledOf
+late-note f h s i g n e t =
+    let z = stop-none (isCard (s .image)) (roomy (length (i .buffers .out)) (length (i .buffers .next))) (eqb (length (i .draw)) drawSize) e in
+    let u = late-card (decode (s .image)) (i .request) (i .draw) (i .answers) g (by-ins WriteIssuerData refl (i .request) (n .command)) (n .counter) t in
+    ap (λ y. y .result .word) (h .settles s i ∙ looked s i (z .0) (z .1 .0) (z .1 .1))
+    ∙ word-is (saidAt s i) swInvalidStatus (decode (s .image) .face) (cardAt s i) (i .buffers .out) (i .buffers .next) u
 
 -- THE STORED COUNTER of a protected card never falls
 climbs-tap : (c : Card) (q d a : List ℕ) → guarded (c .face) ≡ true → Climbs (c .face) (after c q d a .face)
@@ -87,20 +154,20 @@ climbs-tap c q d a g =
     (λ _ s z. rw (z .face) (same refl refl))
     (λ y _. conduct (command q) (matched (c .codes) (sentIn q)) (c .face) q d a y .climbs g)
 
-climbs-call : (m : List ℕ) (i : Call) → protected m ≡ true → Climbs (decode m .face) (decode (imageBy model m i) .face)
+climbs-call : (m : State) (i : Call) → protected (m .image) ≡ true → Climbs (decode (m .image) .face) (decode (imageBy model m i) .face)
 climbs-call m i g =
-    by-call (λ z. Climbs (decode m .face) (decode (image m z) .face)) m i
+    by-call (λ z. Climbs (decode (m .image) .face) (decode (image (m .image) z) .face)) m i
     (λ n k. rw k (same refl refl))
-    (λ o _ _. rw (image-is m i o) (climbs-tap (decode m) (i .request) (i .draw) (i .answers) g))
+    (λ o _ _. rw (image-is m i o) (climbs-tap (decode (m .image)) (i .request) (i .draw) (i .answers) g))
 
 still-protected : {f g : Face} → Climbs f g → guarded f ≡ true → guarded g ≡ true
 still-protected x g = ap (λ z. eqb (z .replay) 1) (x .flags) ∙ g
 
-climbs-all : (m : List ℕ) (is : List Call) → protected m ≡ true → Climbs (decode m .face) (decode (left model m is) .face)
+climbs-all : (m : State) (es : List Event) → protected (m .image) ≡ true → Climbs (decode (m .image) .face) (decode (left model m es .image) .face)
 climbs-all m [] g = same refl refl
-climbs-all m (i ∷ is) g =
+climbs-all m (tapped i ∷ es) g =
     let x = climbs-call m i g in
-    let y = climbs-all (imageBy model m i) is (still-protected x g) in
+    let y = climbs-all (holding (imageBy model m i)) es (still-protected x g) in
     record { flags = y .flags ∙ x .flags; counter = omega (arith, x .counter, y .counter) }
 
 -- A NOTE THAT WAS ACCEPTED: its counter is stored
@@ -114,34 +181,34 @@ stored-card c q d a g e =
     ap (λ z. z .face .held .issuer .counter) (b .isDone) ∙ (ap (λ j. row j .next (c .face) (sentIn q) a .held .issuer .counter) (y .1) ∙ rw g)
 
 stored-model :
-    (m : List ℕ) (i : Call) → protected m ≡ true → did WriteIssuerData (tapBy model m i) ≡ true
+    (m : State) (i : Call) → protected (m .image) ≡ true → did WriteIssuerData (tapBy model m i) ≡ true
     → noteCounter (imageBy model m i) ≡ sentCounter (sentIn (i .request))
 unfolding accepted
 stored-model m i g =
     by-call
-    (λ z. did WriteIssuerData (tap (i .request) (response z)) ≡ true → noteCounter (image m z) ≡ sentCounter (sentIn (i .request))) m i
+    (λ z. did WriteIssuerData (tap (i .request) (response z)) ≡ true → noteCounter (image (m .image) z) ≡ sentCounter (sentIn (i .request))) m i
     (λ n k e. clash (rw k at e) refl)
     (λ o _ _ e.
     ap (λ c. c .face .held .issuer .counter) (image-is m i o)
-    ∙ stored-card (decode m) (i .request) (i .draw) (i .answers) g (ap (λ r. did WriteIssuerData (tap (i .request) r)) (sym (response-is m i)) ∙ e))
+    ∙ stored-card (decode (m .image)) (i .request) (i .draw) (i .answers) g (ap (λ r. did WriteIssuerData (tap (i .request) r)) (sym (response-is m i)) ∙ e))
 
 -- FOR GOOD: after a note with counter n was accepted, and any calls since, every note with a counter up to n is refused
 guarded-model :
-    (m : List ℕ) (i : Call) (is : List Call) (j : Call) → protected m ≡ true → did WriteIssuerData (tapBy model m i) ≡ true
-    → NoteUpTo (sentCounter (sentIn (i .request))) j → Refused model (left model (imageBy model m i) is) j
-guarded-model m i is j g e n =
+    (m : State) (i : Call) (es : List Event) (j : Call) → protected (m .image) ≡ true → did WriteIssuerData (tapBy model m i) ≡ true
+    → NoteUpTo (sentCounter (sentIn (i .request))) j → Refused model (left model (holding (imageBy model m i)) es) j
+guarded-model m i es j g e n =
     let y : protected (imageBy model m i) ≡ true = still-protected (climbs-call m i g) g in
-    let z = climbs-all (imageBy model m i) is y in
+    let z = climbs-all (holding (imageBy model m i)) es y in
     let s = stored-model m i g e in
-    old-model (left model (imageBy model m i) is) j (still-protected z y)
+    old-model (left model (holding (imageBy model m i)) es) j (still-protected z y)
     (record { command = n .command; counter = omega (arith, s, z .counter, n .counter) })
 
 pub notes-guarded :
-    (f : AnyCard) → Demand2 f → (m : List ℕ) (i : Call) (is : List Call) (j : Call) → protected m ≡ true → did WriteIssuerData (tapBy f m i) ≡ true
-    → NoteUpTo (sentCounter (sentIn (i .request))) j → Refused f (left f (imageBy f m i) is) j
+    (f : AnyCard) → Demand2 f → (m : State) (i : Call) (es : List Event) (j : Call) → protected (m .image) ≡ true → did WriteIssuerData (tapBy f m i) ≡ true
+    → NoteUpTo (sentCounter (sentIn (i .request))) j → Refused f (left f (holding (imageBy f m i)) es) j
 notes-guarded =
     every
     (λ f.
-    (m : List ℕ) (i : Call) (is : List Call) (j : Call) → protected m ≡ true → did WriteIssuerData (tapBy f m i) ≡ true
-    → NoteUpTo (sentCounter (sentIn (i .request))) j → Refused f (left f (imageBy f m i) is) j)
+    (m : State) (i : Call) (es : List Event) (j : Call) → protected (m .image) ≡ true → did WriteIssuerData (tapBy f m i) ≡ true
+    → NoteUpTo (sentCounter (sentIn (i .request))) j → Refused f (left f (holding (imageBy f m i)) es) j)
     guarded-model

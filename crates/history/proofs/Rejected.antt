@@ -1,26 +1,35 @@
 -- THE WRONG CARDS of specs/Wrong.antt, each shown to be rejected by the demand named: one call, or a few, on which it differs. Assumes nothing.
-use Prim.Native.Nat.{ℕ}
+use Prim.Native.Nat.{ℕ, suc}
 use native.Mathlib.Omega.{arith}
-use mathlib.Core.Path.{_≡_, refl, ap}
+use mathlib.Core.Path.{_≡_, refl, ap, _∙_}
 use mathlib.Core.List.{List, [], _∷_}
-use lib.ListN.{getD, replicate}
+use mathlib.Core.Bool.{Bool, true}
+use lib.ListN.{length, getD, replicate}
+use lib.Dec.{lit≤}
+use Rattle.wire.specs.Wire.{joined}
 use Rattle.fields.specs.Fields.{fld}
 use Rattle.card.specs.declared.Card.{Card}
 use Rattle.card.specs.Layout.{signatureSize, walletAt, keyAt}
 use Rattle.card.specs.Image.{decode}
-use Rattle.manual.specs.Tags.{NewPIN1, NewPIN2}
-use Rattle.manual.specs.declared.Command.the-variants.{ReadCard, SetPin, Sign}
+use Rattle.manual.specs.Words.{swProcessCompleted, questionsRoom}
+use Rattle.manual.specs.Tags.{NewPIN1, NewPIN2, Challenge}
+use Rattle.manual.specs.declared.Command.the-variants.{ReadCard, SetPin, Sign, VerifyCard}
 use Rattle.manual.specs.declared.Verdict.{Verdict}
 use Rattle.manual.specs.declared.Verdict.the-variants.{Pass, Stop}
+use Rattle.manual.specs.Row.{Question, asked, eachAsked, shaped}
+use Rattle.manual.specs.Checking.{saltSize}
 use Rattle.manual.specs.Commands.{row}
-use Rattle.manual.specs.Settle.{holding, Call, sentIn, matched, said, saidBy, questionsOf, settled, settledOf, askedFor, askedOf}
+use Rattle.manual.specs.Settle.{State, holding, Call, Posed, sentIn, matched, said, saidBy, questionsOf, settled, settledOf, askedFor, askedOf}
 use Rattle.manual.specs.Settle.{judgedBy as judgement}
-use Rattle.history.specs.Demands.{AnyCard, Demand2, left, Demand3}
+use Rattle.history.specs.Demands.{AnyCard, isRefusal, Asked, noneAsked, allAsked, Demand1, Demand2}
+use Rattle.history.specs.Demands.{tapsOf, left, Asks, nothing, due, allKinds, Poses, Demand3}
 use Rattle.history.specs.Wrong.{outside, judgedBy, asksBy, saysBy, honest}
 use Rattle.history.specs.Wrong.{refuser, yesSayer, forgetter, repeater, proud, oldCard, greedy, hasty, hoarder}
-use Rattle.history.proofs.Choice.{clash}
+use Rattle.history.specs.Wrong.{eager, riser, teller, forger, notary, mute, stubborn, inventor}
+use Rattle.history.proofs.Choice.{both-true, clash}
 use Rattle.history.proofs.Images.{model}
-use Rattle.history.proofs.Story.{run, sheet0, image0, fresh0, codes1, request, call, ask0, reads, creates, hashes, signs, purges, notes}
+use Rattle.history.proofs.Story.{run, sheet0, image0, fresh0, sheet1, image1, fresh1, codes1, request, call}
+use Rattle.history.proofs.Story.{ask0, reads, creates, hashes, signs, purges, verifies, notes}
 
 -- THE FRAME of the wrong cards is right: with the manual's rows it meets demand 2
 same-asks : (z : Verdict) (c : Card) (q d : List ℕ) → asksBy row z c q d ≡ questionsOf z (c .face) q d
@@ -35,13 +44,16 @@ pub honest-accepted : Demand2 (outside honest)
 unfolding askedFor askedOf settled settledOf said judgement
 honest-accepted =
     record {
-      asks = λ m i. rw (same-asks (judgedBy row (decode m) (i .request)) (decode m) (i .request) (i .draw)) refl;
-      settles = λ m i. rw (same-says (judgedBy row (decode m) (i .request)) (decode m) (i .request) (i .draw) (i .answers)) refl;
+      asks = λ m i. rw (same-asks (judgedBy row (decode (m .image)) (i .request)) (decode (m .image)) (i .request) (i .draw)) refl;
+      settles = λ m i. rw (same-says (judgedBy row (decode (m .image)) (i .request)) (decode (m .image)) (i .request) (i .draw) (i .answers)) refl;
     }
 
--- demand 2, at a call on the image that calls of the manual's own left
-by-manual : {f : AnyCard} → Demand2 f → (is : List Call) (i : Call) → f .settle (left model image0 is) i ≡ settled (holding (left model image0 is)) i
-by-manual h is i = h .settles (left model image0 is) i
+-- demand 2, at a call on the state that calls of the manual's own left
+abbrev after0 : List Call → State
+after0 is = left model (holding image0) (tapsOf is)
+
+by-manual : {f : AnyCard} → Demand2 f → (is : List Call) (i : Call) → f .taps .settle (after0 is) i ≡ settled (after0 is) i
+by-manual h is i = h .settles (after0 is) i
 
 -- 1. answers 6985 to everything: READ_CARD's response begins with CID
 pub refuser-rejected : Demand2 refuser → ⊥
@@ -70,7 +82,7 @@ repeater-rejected-2 h =
 pub repeater-rejected-3 : Demand3 repeater → ⊥
 unfolding run
 repeater-rejected-3 h =
-    let k = h .next sheet0 image0 fresh0 (creates ∷ signs 1 5 ∷ []) (signs 1 6) in
+    let k = h .next sheet0 image0 fresh0 (tapsOf (creates ∷ signs 1 5 ∷ [])) (signs 1 6) in
     let e : _≡_ {A = ℕ} 5 6 = ap (λ v. getD v 0 0) (k .signs refl .answers) in
     absurd (omega arith)
 
@@ -81,18 +93,24 @@ proud-rejected h =
     let e : _≡_ {A = ℕ} 7 0 = ap (λ v. getD v 3 0) (h .next sheet0 image0 fresh0 [] reads .signedHashes refl refl) in
     absurd (omega arith)
 
--- 6. takes a note whose counter is not above the stored one: 9 again is 6985
+-- 6. takes any note: 9 again is 6985, and so is 8
 pub oldCard-rejected : Demand2 oldCard → ⊥
 unfolding run
 oldCard-rejected h =
     let e : _≡_ {A = ℕ} 0x01 0x69 = ap (λ z. getD (z .response) 0 0) (by-manual h (notes 9 ∷ []) (notes 9)) in
     absurd (omega arith)
 
+pub oldCard-rejected-below : Demand2 oldCard → ⊥
+unfolding run
+oldCard-rejected-below h =
+    let e : _≡_ {A = ℕ} 0x01 0x69 = ap (λ z. getD (z .response) 0 0) (by-manual h (notes 9 ∷ []) (notes 8)) in
+    absurd (omega arith)
+
 -- 7. takes a signature off Remaining per hash: two hashes, 3 of 5 left
 pub greedy-rejected : Demand3 greedy → ⊥
 unfolding run
 greedy-rejected h =
-    let e : _≡_ {A = ℕ} 4 5 = h .kept sheet0 image0 fresh0 (creates ∷ signs 2 5 ∷ []) .balance refl in
+    let e : _≡_ {A = ℕ} 4 5 = h .kept sheet0 image0 fresh0 (tapsOf (creates ∷ signs 2 5 ∷ [])) .balance refl in
     absurd (omega arith)
 
 -- 8. stores the new codes before it looks whether they may change: a SIGN on them, after a refused SET_PIN
@@ -100,10 +118,92 @@ pub hasty-rejected : Demand3 hasty → ⊥
 unfolding run
 hasty-rejected h =
     let setting : Call = ask0 SetPin (fld NewPIN1 (codes1 .pin1) ∷ fld NewPIN2 (codes1 .pin2) ∷ []) [] in
-    let signing : Call = call (request codes1 Sign (hashes 1)) (replicate signatureSize 5) in
-    clash (h .next sheet0 image0 fresh0 (creates ∷ setting ∷ []) signing .signs refl .pin1) refl
+    let signing : Call = call (request codes1 Sign (hashes 1 5)) (replicate signatureSize 5) in
+    clash (h .next sheet0 image0 fresh0 (tapsOf (creates ∷ setting ∷ [])) signing .signs refl .isDue .entitled .pin1) refl
 
 -- 9. keeps the purged key: its size is 0 after PURGE_WALLET
 pub hoarder-rejected : Demand2 hoarder → ⊥
 unfolding run
 hoarder-rejected h = let e : _≡_ {A = ℕ} 65 0 = ap (λ z. getD (z .next) keyAt 0) (by-manual h (creates ∷ []) purges) in absurd (omega arith)
+
+-- 10. asks for the signatures of any new SIGN: on other codes than those in force, a question of 38 bytes
+by-asks : {A Due : Type 0} {these : List Question} {x : List ℕ} → Asks Due these x → (x ≡ [] → A) → (Due → A) → A
+by-asks (nothing e) f g = f e
+by-asks (due z e) f g = g z
+
+pub eager-rejected : Demand3 eager → ⊥
+unfolding run
+eager-rejected h =
+    by-asks (h .next sheet0 image0 fresh0 (tapsOf (creates ∷ [])) (call (request codes1 Sign (hashes 1 5)) []) .signAsks refl)
+    (λ e. let z : _≡_ {A = ℕ} 38 0 = ap length e in absurd (omega arith))
+    (λ z. clash (z .entitled .pin1) refl)
+
+-- 11. rises from a purge: Loaded, where the history shows Purged
+pub riser-rejected : Demand3 riser → ⊥
+unfolding run
+riser-rejected h =
+    let e : _≡_ {A = ℕ} 2 3 = h .kept sheet1 image1 fresh1 (tapsOf (creates ∷ purges ∷ verifies ∷ [])) .state in
+    absurd (omega arith)
+
+-- 12. tells a purged card to be Loaded
+pub teller-rejected : Demand3 teller → ⊥
+unfolding run
+teller-rejected h =
+    let e : _≡_ {A = ℕ} 2 3 = ap (λ v. getD v 0 0) (h .next sheet1 image1 fresh1 (tapsOf (creates ∷ purges ∷ [])) reads .state refl refl) in
+    absurd (omega arith)
+
+-- 13. has the purged wallet sign: a question of kind 3
+first-kind : {p : ℕ → Bool} {k : ℕ} {x : List ℕ} → Poses p (k ∷ x) → p k ≡ true
+unfolding asked eachAsked joined
+first-kind {p} {k} {x} z = go (z .these) (z .bytes) (z .kinds)
+  where
+    go : (xs : List Question) → k ∷ x ≡ asked xs → allKinds p xs ≡ true → p k ≡ true
+    go [] e u = let y : _≡_ {A = ℕ} (suc (length x)) 0 = ap length e in absurd (omega arith)
+    go (y ∷ ys) e u =
+        let w = both-true (p (y .kind)) (allKinds p ys) u .0 in
+        let l : k ≡ y .kind = ap (λ m. getD m 0 0) e in
+        ap p l ∙ w
+
+pub forger-rejected : Demand3 forger → ⊥
+unfolding run
+forger-rejected h = clash (first-kind (h .next sheet1 image1 fresh1 (tapsOf (creates ∷ purges ∷ [])) verifies .spared refl refl)) refl
+
+-- 14. signs by another command: a question of kind 2 that no SIGN asked
+pub notary-rejected : Demand3 notary → ⊥
+unfolding run
+notary-rejected h =
+    clash
+    (first-kind
+    (h .next sheet0 image0 fresh0 (tapsOf (creates ∷ []))
+    (ask0 VerifyCard (fld Challenge (replicate saltSize 4) ∷ hashes 1 5) (replicate signatureSize 5)) .poses))
+    refl
+
+-- 15. ask says 1234: no word of the table, nor 9000
+asked-word : (i : Call) (x : Posed) → Asked i x → (x .result .word ≡ swProcessCompleted → ⊥) → isRefusal (x .result .word) ≡ true
+asked-word i x (noneAsked w e z) f = rw z e
+asked-word i x (allAsked v l z) f = absurd (f (ap (λ y. y .result .word) z))
+
+pub mute-rejected : Demand1 mute → ⊥
+unfolding run
+mute-rejected h =
+    clash (asked-word reads _ (h .asks (holding image0) reads refl) (λ e. let z : _≡_ {A = ℕ} 0x1234 0x9000 = e in omega arith)) refl
+
+-- 16. settle says number 4: READ_CARD asks nothing, and no answer answers that
+none-asked : (xs : List Question) → [] ≡ asked xs → shaped xs [] ≡ true
+unfolding asked eachAsked joined shaped
+none-asked [] e = refl
+none-asked (x ∷ xs) e = absurd (let z = ap length e in omega arith)
+
+pub stubborn-rejected : Demand1 stubborn → ⊥
+unfolding run
+stubborn-rejected h =
+    let z = h .agrees (holding image0) reads (replicate questionsRoom 0) (lit≤ tt) refl in
+    clash (none-asked (z .these) (z .bytes)) (z .four refl .1)
+
+-- 17. refuses with a word of its own making: ask says 6A86 to a wrong PIN1, and settle 6F00
+pub inventor-rejected : Demand1 inventor → ⊥
+unfolding run
+inventor-rejected h =
+    let e : _≡_ {A = ℕ} 0x6F00 0x6A86 = h .agrees (holding image0) (call (request codes1 ReadCard []) []) (replicate questionsRoom 0)
+    (lit≤ tt) refl .refuses refl in
+    absurd (omega arith)

@@ -13,10 +13,11 @@ use Rattle.card.specs.declared.Last.{Last}
 use Rattle.card.specs.declared.Face.{Face}
 use Rattle.card.specs.Layout.{top32}
 use Rattle.card.specs.Values.{lastOf, fresh}
-use Rattle.story.specs.Sums.{Sheet, Tap, History, accepted, wallets, status, everPurged, made, total, codes, given}
+use Rattle.story.specs.Sums.{Sheet, Tap, History, accepted, active, wallets, status, everPurged, made, total, codes, given}
 use Rattle.history.proofs.Choice.{clash}
 
 pub record Seen : Type 0 where
+  pub active : ℕ
   pub codes : Codes
   pub status : ℕ
   pub everPurged : Bool
@@ -28,6 +29,7 @@ pub record Seen : Type 0 where
 abbrev pub look : Sheet → History → Seen
 look sh h =
     record {
+      active = active sh h;
       codes = codes sh h;
       status = status sh h;
       everPurged = everPurged h;
@@ -39,7 +41,7 @@ look sh h =
 
 -- a tap that was not accepted adds nothing
 pub look-none : (sh : Sheet) (t : Tap) (h : History) → accepted (t .response) ≡ false → look sh (t ∷ h) ≡ look sh h
-look-none sh t h e = rw e
+look-none sh t h e = rw (e, e)
 
 -- the part of the card that histories speak of
 pub record Watched : Type 0 where
@@ -54,7 +56,9 @@ watch f = record { fixed = f .front .fixed; flags = f .front .flags; wallet = f 
 -- THE INVARIANT: what is watched of the card, its codes, and what its history shows
 pub record Inv (sh : Sheet) (f : Watched) (x : Codes) (s : Seen) : Type 0 where
   pub fixed : f .fixed ≡ sh .fixed
-  pub flags : f .flags ≡ sh .flags
+  pub active : f .flags .active ≡ s .active
+  pub reusable : f .flags .reusable ≡ sh .flags .reusable
+  pub usecvc : f .flags .usecvc ≡ sh .flags .usecvc
   pub codes : x ≡ s .codes
   pub status : f .wallet .status ≡ s .status
   pub number : f .wallet .number ≡ s .number
@@ -70,7 +74,9 @@ module _ (sh : Sheet) where
   at-first =
       record {
         fixed = refl;
-        flags = refl;
+        active = refl;
+        reusable = refl;
+        usecvc = refl;
         codes = refl;
         status = refl;
         number = refl;

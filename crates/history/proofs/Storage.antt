@@ -51,6 +51,7 @@ module _ (m : Matched) (f : Face) (q d a : List ℕ) where
             (quiet-join (heldField UserProtectedData (blockOf (f .held .protected))) _
             (held-quiet UserProtectedData (blockOf (f .held .protected)) refl)
             refl));
+        asks = refl;
         keeps = λ sh x h r i t s. rw (t .create, t .pin, t .sign, t .purge) i;
         stays = λ o g. o;
         alive = λ u e. clash u refl;
@@ -62,6 +63,7 @@ module _ (m : Matched) (f : Face) (q d a : List ℕ) where
       let v : View = sentIn q in
       record {
         reports = quietly _ _ refl;
+        asks = refl;
         keeps = λ sh x h r i t s. rw (t .create, t .pin, t .sign, t .purge) i;
         stays = λ o g.
             let y = valid f o in
@@ -82,6 +84,7 @@ module _ (m : Matched) (f : Face) (q d a : List ℕ) where
       let v : View = sentIn q in
       record {
         reports = quietly _ _ refl;
+        asks = refl;
         keeps = λ sh x h r i t s. rw (t .create, t .pin, t .sign, t .purge) i;
         stays = λ o g.
             let n = note f v (p .fields) in
@@ -99,6 +102,7 @@ module _ (m : Matched) (f : Face) (q d a : List ℕ) where
             (quiet-join (noteFields f) _
             (by-cases (λ z. quiet z ≡ true) (eqb (length (noteOf f)) 0) (λ _. refl) (λ _. refl))
             (by-cases (λ z. quiet z ≡ true) (guarded f) (λ _. refl) (λ _. refl)));
+        asks = refl;
         keeps = λ sh x h r i t s. rw (t .create, t .pin, t .sign, t .purge) i;
         stays = λ o g. o;
         alive = λ u e. clash u refl;

@@ -14,24 +14,25 @@ use Rattle.card.specs.Image.{decode}
 use Rattle.card.specs.Valid.{isCard, okFace, okFront, okHeld, okFlags, okRanges, okState, okKey, keySize, okBlock, okIssuer, okLast}
 use Rattle.card.specs.Values.{fresh, keyOf, blockOf, lastOf}
 use Rattle.manual.specs.Words.{questionsRoom, responseRoom, drawSize, hashSize}
-use Rattle.manual.specs.Tags.{CID, PIN1, PIN2, IssuerData, IssuerDataSignature, IssuerDataCounter, TransactionHash, TransactionHashSize}
+use Rattle.manual.specs.Tags.{CID, PIN1, PIN2, Challenge, IssuerData, IssuerDataSignature, IssuerDataCounter, TransactionHash, TransactionHashSize}
 use Rattle.manual.specs.declared.Command.{Command}
-use Rattle.manual.specs.declared.Command.the-variants.{ReadCard, CreateWallet, Sign, PurgeWallet, WriteIssuerData}
+use Rattle.manual.specs.declared.Command.the-variants.{ReadCard, CreateWallet, Sign, VerifyCard, PurgeWallet, WriteIssuerData}
 use Rattle.manual.specs.Request.{code, lcOf, insOf}
 use Rattle.manual.specs.Row.{plain, allowed, shaped, asked, eachAsked}
 use Rattle.manual.specs.Wallet.{curveName, hashQuestions}
-use Rattle.manual.specs.Settle.{Call, sentIn, judgedBy, said, done, answered, lent, settledOf, settled, Settled, roomy, askedOf, askedFor}
+use Rattle.manual.specs.Checking.{saltSize}
+use Rattle.manual.specs.Settle.{State, holding, Call, sentIn, judgedBy, said, done, answered, lent, settledOf, settled, Settled, roomy, askedOf, askedFor}
 use Rattle.story.specs.Sums.{Sheet, History, accepted, made, total, wallets, status, everPurged, given}
-use Rattle.history.specs.Demands.{AnyCard, left, played, Fresh}
+use Rattle.history.specs.Demands.{AnyCard, tapsOf, left, played, Fresh}
 use Rattle.history.proofs.Images.{model}
 
 -- a call as it runs: to unfold this is to unfold all that a call computes with
-unfoldable pub run : AnyCard → List ℕ → Call → Settled
+unfoldable pub run : AnyCard → State → Call → Settled
 unfolding settled settledOf lent said judgedBy sentIn viewOf answered done roomy askedFor askedOf asked eachAsked accepted lcOf insOf plain allowed
     shaped wellFormed holds has val restFrom runN stepAt fieldAt written each joined tlv headOf part put room fit placed alike allZero fresh keyOf
     blockOf lastOf curveName hashQuestions encode encCodes encFront encHeld encFace encFixed encFlags encWallet encKey encCounters encBlock
     encIssuer encLast decode isCard okFace okFront okHeld okFlags okRanges okState okKey keySize okBlock okIssuer okLast
-run f m i = f .settle m i
+run f m i = f .taps .settle m i
 
 -- THE SHEET: reusable, no CVC, PIN1 may not change, five signatures, replay protection
 abbrev pub sheet0 : Sheet
@@ -48,6 +49,22 @@ image0 = encode (fresh (sheet0 .fixed) (sheet0 .flags) (sheet0 .codes))
 pub fresh0 : Fresh sheet0 image0
 unfolding run
 fresh0 = record { card = refl; spells = refl }
+
+-- the same sheet, of a card that is not reusable
+abbrev pub sheet1 : Sheet
+sheet1 =
+    record {
+      fixed = sheet0 .fixed;
+      flags = record { reusable = 0; usecvc = 0; setpin1 = 0; setpin2 = 1; nopurge = 0; replay = 1; active = 1 };
+      codes = sheet0 .codes;
+    }
+
+abbrev pub image1 : List ℕ
+image1 = encode (fresh (sheet1 .fixed) (sheet1 .flags) (sheet1 .codes))
+
+pub fresh1 : Fresh sheet1 image1
+unfolding run
+fresh1 = record { card = refl; spells = refl }
 
 -- CALLS, under these codes or others
 abbrev pub codes1 : Codes
@@ -76,19 +93,22 @@ reads = ask0 ReadCard [] []
 abbrev pub creates : Call
 creates = ask0 CreateWallet [] (4 ∷ replicate 64 9)
 
--- so many hashes
-abbrev pub hashes : ℕ → List Tagged
-hashes n = fld TransactionHash (replicate (n * hashSize) 3) ∷ fld TransactionHashSize (hashSize ∷ []) ∷ []
+-- so many hashes, made of one byte
+abbrev pub hashes : ℕ → ℕ → List Tagged
+hashes n x = fld TransactionHash (replicate (n * hashSize) x) ∷ fld TransactionHashSize (hashSize ∷ []) ∷ []
 
--- SIGN over so many, whose signatures are made of one byte
+-- SIGN over them; the provider makes the signature of a hash of that byte, always the same
 abbrev pub signs : ℕ → ℕ → Call
-signs n x = ask0 Sign (hashes n) (replicate (n * signatureSize) x)
+signs n x = ask0 Sign (hashes n x) (replicate (n * signatureSize) x)
 
 abbrev pub repeats : Call
 repeats = ask0 Sign [] []
 
 abbrev pub purges : Call
 purges = ask0 PurgeWallet [] []
+
+abbrev pub verifies : Call
+verifies = ask0 VerifyCard (fld Challenge (replicate saltSize 4) ∷ []) (replicate signatureSize 5)
 
 -- a note with this counter, which the issuer's key confirms
 abbrev pub notes : ℕ → Call
@@ -102,10 +122,10 @@ abbrev pub story : List Call
 story = creates ∷ ask0 ReadCard [] (1 ∷ []) ∷ signs 5 5 ∷ repeats ∷ purges ∷ creates ∷ []
 
 abbrev lived : History
-lived = played model image0 [] story
+lived = played model (holding image0) [] (tapsOf story)
 
 abbrev ended : Card
-ended = decode (left model image0 story)
+ended = decode (left model (holding image0) (tapsOf story) .image)
 
 pub examples :
     (length lived ≡ 6)

@@ -17,12 +17,12 @@ use Rattle.manual.specs.Words.{swWrongLength, swNeedEncryption, swInvalidStatus
 use Rattle.manual.specs.Tags.{CVC}
 use Rattle.manual.specs.declared.Verdict.{Verdict}
 use Rattle.manual.specs.declared.Verdict.the-variants.{Stop}
-use Rattle.manual.specs.Request.{command, payload}
+use Rattle.manual.specs.Request.{command, payload, listed, insOf}
 use Rattle.manual.specs.Row.{Matched, Question, shaped, Row, Rule, gateOf, allowed, asksCvc, rules, passed}
 use Rattle.manual.specs.Commands.{row}
 use Rattle.manual.specs.Settle.{sentIn, judgedBy, judged, Said, silent, refused, done, answered, saidBy, said, questionsOf}
 use Rattle.story.specs.Sums.{bodyOf, lastWord, toldIn, isDone, accepted}
-use Rattle.history.specs.Facts.{isRefusal}
+use Rattle.history.specs.Demands.{isRefusal}
 use Rattle.history.proofs.Choice.{by-cases, both-true, clash}
 
 -- RESPONSES
@@ -184,3 +184,13 @@ carried m f q d a =
     (λ w x k e. clash e (k .answer))
     (λ h s k e. clash e (k .answer))
     (λ h g e. record { passed = h; shape = g; isDone = refl; isAsked = refl })
+
+-- and its INS is listed
+pub lists :
+    (m : Matched) (f : Face) (q d a : List ℕ) → accepted (said m f q d a .response) ≡ true → listed (insOf (getD q 1 0)) ≡ true
+unfolding said judgedBy
+lists m f q d a =
+    by-checks (λ z. accepted (saidBy z m f q d a .response) ≡ true → listed (insOf (getD q 1 0)) ≡ true) (all (row (command q)) m f q) (passed q)
+    (words (row (command q)) m f q)
+    (λ n w _ x e. clash e (accepts [] w ∙ x))
+    (λ h _. h .1 .1 .0)

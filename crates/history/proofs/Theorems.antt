@@ -6,8 +6,7 @@ use mathlib.Core.List.{List, _++_}
 use mathlib.Core.Bool.{Bool, true, false, cond}
 use lib.ListN.{length, drop, length-append}
 use lib.Dec.{leb, eqb}
-use Rattle.wire.specs.Wire.{be2, joined}
-use Rattle.wire.proofs.Parts.{Bytes}
+use Rattle.wire.specs.Wire.{be2, joined, Bytes}
 use Rattle.fields.specs.Fields.{View, written}
 use Rattle.card.specs.declared.Face.{Face}
 use Rattle.card.specs.declared.Card.{Card}
@@ -22,19 +21,21 @@ use Rattle.manual.specs.declared.Command.{Command}
 use Rattle.manual.specs.Request.{command}
 use Rattle.manual.specs.Row.{Matched, asked, eachAsked, shaped, passed}
 use Rattle.manual.specs.Commands.{row}
-use Rattle.manual.specs.Settle.{holding, Call, sentIn, matched, judgedBy, wordOf, Said, refused, done, saidTo, cardAfter, fieldsOf, questionsOf}
+use Rattle.manual.specs.Settle.{State, Call, sentIn, matched, judgedBy, wordOf, Said, refused, done, saidTo, cardAfter, fieldsOf, questionsOf}
 use Rattle.manual.specs.Settle.{Settled, settled, settledOf, settledBy, lent, untouched, outcome, over, askedFor, askedOf, posed, posedBy, roomy}
 use Rattle.facts.proofs.Facts.{small-decode, small-shape, facts, asks, tells}
 use Rattle.story.specs.Sums.{isDone}
 use Rattle.story.specs.Buffers.{image}
-use Rattle.history.specs.Demands.{AnyCard, stop, Asked, noneAsked, allAsked, Ended, shapeless, refusal, carriedOut}
+use Rattle.history.specs.Demands.{AnyCard, stop, settleRefusal, Asked, noneAsked, allAsked, Ended, shapeless, refusal, carriedOut}
 use Rattle.history.specs.Demands.{Demand1, Demand2, imageBy, Demand3}
 use Rattle.history.specs.Facts.{Unchanged}
 use Rattle.history.proofs.Choice.{by-cases, clash}
 use Rattle.history.proofs.Taps.{by-checks, all, words, Passed, named, by-outcome, by-tap}
 use Rattle.history.proofs.Commands.{conduct}
 use Rattle.history.proofs.Cards.{done-is, after, stays-tap}
-use Rattle.history.proofs.Images.{model, saidAt, cardAt, settledAt, quiet, by-call, shape-is, image-bytes, image-is, model-demand3, is-model}
+use Rattle.history.proofs.Images.{model, stop-none, stops, saidAt, cardAt, settledAt}
+use Rattle.history.proofs.Images.{quiet, by-call, shape-is, image-bytes, image-is, model-demand3, is-model}
+use Rattle.history.proofs.Agrees.{agree-model}
 
 -- DEMAND 3 follows from demand 2
 pub demand3 : (f : AnyCard) → Demand2 f → Demand3 f
@@ -49,40 +50,28 @@ pub every : (P : AnyCard → Type 0) → P model → (f : AnyCard) → Demand2 f
 every P p f h = subst P (is-model f h) p
 
 -- WHAT IS LEFT OF A CARD IS A CARD
-stays-model : (m : List ℕ) (i : Call) → isCard m ≡ true → isCard (imageBy model m i) ≡ true
+stays-model : (m : State) (i : Call) → isCard (m .image) ≡ true → isCard (imageBy model m i) ≡ true
 stays-model m i e =
-    by-call (λ z. isCard (image m z) ≡ true) m i
+    by-call (λ z. isCard (image (m .image) z) ≡ true) m i
     (λ n k. rw k e)
     (λ o _ _.
     rw (image-bytes m i o)
-    (by-cases (λ (l : List ℕ). isCard l ≡ true) (eqb (saidAt m i .number) 0) {x = encode (cardAt m i)} {y = m}
-    (λ _. is-card-encode (cardAt m i) (shape-is m i o) (stays-tap (decode m) (i .request) (i .draw) (i .answers) (is-card-face m e)))
+    (by-cases (λ (l : List ℕ). isCard l ≡ true) (eqb (saidAt m i .number) 0) {x = encode (cardAt m i)} {y = m .image}
+    (λ _. is-card-encode (cardAt m i) (shape-is m i o) (stays-tap (decode (m .image)) (i .request) (i .draw) (i .answers) (is-card-face (m .image) e)))
     (λ _. e)))
 
-pub card-stays : (f : AnyCard) → Demand2 f → (m : List ℕ) (i : Call) → isCard m ≡ true → isCard (imageBy f m i) ≡ true
-card-stays = every (λ f. (m : List ℕ) (i : Call) → isCard m ≡ true → isCard (imageBy f m i) ≡ true) stays-model
+pub card-stays : (f : AnyCard) → Demand2 f → (m : State) (i : Call) → isCard (m .image) ≡ true → isCard (imageBy f m i) ≡ true
+card-stays = every (λ f. (m : State) (i : Call) → isCard (m .image) ≡ true → isCard (imageBy f m i) ≡ true) stays-model
 
--- DEMAND 1. Numbers 1 to 3
-pub stop-none : (a b c : Bool) → stop a b c ≡ 0 → (a ≡ true) × ((b ≡ true) × (c ≡ true))
-stop-none true true true e = (refl, (refl, refl))
-stop-none true true false e = absurd (omega arith)
-stop-none true false c e = absurd (omega arith)
-stop-none false b c e = absurd (omega arith)
-
-stops :
-    {A : Type 0} (a b c : Bool) (x : A) (y : ℕ → A) → eqb (stop a b c) 0 ≡ false → cond a (cond b (cond c x (y 3)) (y 2)) (y 1) ≡ y (stop a b c)
-stops true true true x y e = clash refl e
-stops true true false x y e = refl
-stops true false c x y e = refl
-stops false b c x y e = refl
-
--- ask
-ask-ends : (m : List ℕ) (i : Call) → Asked i (askedOf (matched (decode m .codes) (sentIn (i .request))) (decode m .face) (i .request) (i .draw) (i .buffers .page))
+-- DEMAND 1. ask
+ask-ends :
+    (m : State) (i : Call)
+    → Asked i (askedOf (matched (decode (m .image) .codes) (sentIn (i .request))) (decode (m .image) .face) (i .request) (i .draw) (i .buffers .page))
 unfolding askedOf judgedBy asked eachAsked joined
 ask-ends m i =
     by-checks (λ z. Asked i (posed (wordOf z) (asked (questionsOf z f q (i .draw))) (i .buffers .page))) (all (row k) x f q) (passed q) (words (row k) x f q)
-    (λ n w _ e. noneAsked w e refl)
-    (λ h. allAsked (asked (row k .questions f v (i .draw))) (asks (facts k) f v (i .draw) (small-decode m) (named (row k) x f q h .fields)) refl)
+    (λ n w e _. noneAsked w e refl)
+    (λ h. allAsked (asked (row k .questions f v (i .draw))) (asks (facts k) f v (i .draw) (small-decode (m .image)) (named (row k) x f q h .fields)) refl)
   where
     q : List ℕ
     q = i .request
@@ -94,13 +83,13 @@ ask-ends m i =
     k = command (i .request)
 
     x : Matched
-    x = matched (decode m .codes) (sentIn (i .request))
+    x = matched (decode (m .image) .codes) (sentIn (i .request))
 
     f : Face
-    f = decode m .face
+    f = decode (m .image) .face
 
 -- settle
-module _ (m : List ℕ) (i : Call) (o : isCard m ≡ true) (b : Bytes m) where
+module _ (m : State) (i : Call) (o : isCard (m .image) ≡ true) (b : Bytes (m .image)) where
   abbrev q : List ℕ
   q = i .request
 
@@ -111,20 +100,20 @@ module _ (m : List ℕ) (i : Call) (o : isCard m ≡ true) (b : Bytes m) where
   v = sentIn (i .request)
 
   abbrev c : Card
-  c = decode m
+  c = decode (m .image)
 
   abbrev x : Matched
-  x = matched (decode m .codes) (sentIn (i .request))
+  x = matched (decode (m .image) .codes) (sentIn (i .request))
 
   -- what is said of the card is lent
   abbrev Goal : Said → Type 0
   Goal z = Ended m i (lent z (cardAfter z (c .codes) q) (i .buffers .out) (i .buffers .next))
 
   -- the old image, written
-  old-next : encode (decode m) ++ drop imageSize (i .buffers .next) ≡ over m (i .buffers .next)
-  old-next = λ j. card-image m o b j ++ drop (sym (is-card-length m o) j) (i .buffers .next)
+  old-next : encode (decode (m .image)) ++ drop imageSize (i .buffers .next) ≡ over (m .image) (i .buffers .next)
+  old-next = λ j. card-image (m .image) o b j ++ drop (sym (is-card-length (m .image) o) j) (i .buffers .next)
 
-  refuses : (w : ℕ) → isDone w ≡ false → Goal (refused w (c .face))
+  refuses : (w : ℕ) → settleRefusal w ≡ true → Goal (refused w (c .face))
   unfolding lent
   refuses w e = refusal w e (λ j. settledBy (outcome 0 w 2) (over (be2 w) (i .buffers .out)) (old-next j))
 
@@ -133,21 +122,22 @@ module _ (m : List ℕ) (i : Call) (o : isCard m ≡ true) (b : Bytes m) where
       → Goal (done (row k) x (c .face) v (i .draw) (i .answers))
   unfolding lent done
   carries h g =
-      let y = shape-decode m (is-card-length m o) in
+      let y = shape-decode (m .image) (is-card-length (m .image) o) in
       let n : Face = row k .next (c .face) v (i .answers) in
       let d : Card = record { face = n; codes = row k .recode v (c .codes) } in
       let s : Shape d = record { codes = facts k .codes v (c .codes) (y .codes); face = facts k .shape (c .face) v (i .answers) (y .face) } in
       let w : ℕ = swProcessCompleted + row k .more x in
       let l : List ℕ = written (fieldsOf (row k) n v (i .draw) (i .answers)) in
-      let p = conduct k x (c .face) q (i .draw) (i .answers) h .stays (is-card-face m o) g in
+      let p = conduct k x (c .face) q (i .draw) (i .answers) h .stays (is-card-face (m .image) o) g in
       carriedOut w l (encode d) (done-is k x) (tells (facts k) n v (i .draw) (i .answers) (small-shape (s .face))) (is-card-encode d s p)
-      (λ j. settledBy (outcome 0 w (length-append l (be2 w) j)) (over (l ++ be2 w) (i .buffers .out)) (encode d ++ drop (sym (length-encode d s) j) (i .buffers .next)))
+      (λ j. settledBy (outcome 0 w (length-append l (be2 w) j)) (over (l ++ be2 w) (i .buffers .out))
+      (encode d ++ drop (sym (length-encode d s) j) (i .buffers .next)))
 
   settle-ends : Ended m i (settledAt m i)
   unfolding settledOf lent done
   settle-ends =
       by-outcome (λ z _. Goal z) x (c .face) q (i .draw) (i .answers)
-      (λ w _ e. refuses w e)
+      (λ w e _. refuses w (rw e refl))
       (λ _ _. shapeless refl)
       (λ _. refuses swErrorProcessingCommand refl)
       (λ h g. carries h g)
@@ -157,15 +147,18 @@ unfolding askedFor settled
 model-demand1 =
     record {
       askStops = λ m i e.
-          stops (isCard m) (leb questionsRoom (length (i .buffers .page))) (eqb (length (i .draw)) drawSize) _ (λ n. posedBy (outcome n 0 0) (i .buffers .page)) e;
+          stops (isCard (m .image)) (leb questionsRoom (length (i .buffers .page))) (eqb (length (i .draw)) drawSize) _
+          (λ n. posedBy (outcome n 0 0) (i .buffers .page)) e;
       asks = λ m i e.
-          let z = stop-none (isCard m) (leb questionsRoom (length (i .buffers .page))) (eqb (length (i .draw)) drawSize) e in
+          let z = stop-none (isCard (m .image)) (leb questionsRoom (length (i .buffers .page))) (eqb (length (i .draw)) drawSize) e in
           rw (z .0, z .1 .0, z .1 .1) (ask-ends m i);
       settleStops = λ m i e.
-          stops (isCard m) (roomy (length (i .buffers .out)) (length (i .buffers .next))) (eqb (length (i .draw)) drawSize) _ (λ n. untouched n (i .buffers .out) (i .buffers .next)) e;
+          stops (isCard (m .image)) (roomy (length (i .buffers .out)) (length (i .buffers .next))) (eqb (length (i .draw)) drawSize) _
+          (λ n. untouched n (i .buffers .out) (i .buffers .next)) e;
       settles = λ m i b e.
-          let z = stop-none (isCard m) (roomy (length (i .buffers .out)) (length (i .buffers .next))) (eqb (length (i .draw)) drawSize) e in
+          let z = stop-none (isCard (m .image)) (roomy (length (i .buffers .out)) (length (i .buffers .next))) (eqb (length (i .draw)) drawSize) e in
           rw (z .0, z .1 .0, z .1 .1) (settle-ends m i (z .0) b);
+      agrees = agree-model;
     }
 
 pub demand1 : (f : AnyCard) → Demand2 f → Demand1 f
@@ -181,20 +174,21 @@ refused-card c q d a =
     (λ y g e. clash (done-is (command q) (matched (c .codes) (sentIn q))) e)
 
 -- the card where the word that is returned is no 9000 to 9003
-refused-at : (m : List ℕ) (i : Call) → isDone (settledAt m i .result .word) ≡ false → cardAt m i ≡ decode m
+refused-at : (m : State) (i : Call) → isDone (settledAt m i .result .word) ≡ false → cardAt m i ≡ decode (m .image)
 unfolding settledOf lent
 refused-at m i = go (eqb (saidAt m i .number) 0) refl
   where
     go : (b : Bool) → eqb (saidAt m i .number) 0 ≡ b → isDone (lent (saidAt m i) (cardAt m i) (i .buffers .out) (i .buffers .next) .result .word) ≡ false
-        → cardAt m i ≡ decode m
-    go true n e = refused-card (decode m) (i .request) (i .draw) (i .answers) (rw n at e)
-    go false n e = quiet (decode m) (i .request) (i .draw) (i .answers) n .1
+        → cardAt m i ≡ decode (m .image)
+    go true n e = refused-card (decode (m .image)) (i .request) (i .draw) (i .answers) (rw n at e)
+    go false n e = quiet (decode (m .image)) (i .request) (i .draw) (i .answers) n .1
 
 -- of a call: nothing changes where it is not looked at, nor where the card stays
 pub keeps-where :
-    (P : Settled → Type 0) (m : List ℕ) (i : Call) → (P (settledAt m i) → cardAt m i ≡ decode m) → P (settled (holding m) i) → Unchanged m (imageBy model m i)
+    (P : Settled → Type 0) (m : State) (i : Call) → (P (settledAt m i) → cardAt m i ≡ decode (m .image)) → P (settled m i)
+    → Unchanged (m .image) (imageBy model m i)
 keeps-where P m i h =
-    by-call (λ z. P z → Unchanged m (image m z)) m i
+    by-call (λ z. P z → Unchanged (m .image) (image (m .image) z)) m i
     (λ n k _. rw k (record { card = refl; bytes = λ _ _. refl }))
     (λ x _ _ p.
     let e = h p in
@@ -202,10 +196,12 @@ keeps-where P m i h =
       card = image-is m i x ∙ e;
       bytes = λ o b.
           image-bytes m i x
-          ∙ by-cases (λ (l : List ℕ). l ≡ m) (eqb (saidAt m i .number) 0) {x = encode (cardAt m i)} {y = m} (λ _. ap encode e ∙ card-image m o b) (λ _. refl);
+          ∙ by-cases (λ (l : List ℕ). l ≡ m .image) (eqb (saidAt m i .number) 0) {x = encode (cardAt m i)} {y = m .image}
+          (λ _. ap encode e ∙ card-image (m .image) o b) (λ _. refl);
     })
 
-pub refusal-keeps : (f : AnyCard) → Demand2 f → (m : List ℕ) (i : Call) → isDone (f .settle m i .result .word) ≡ false → Unchanged m (imageBy f m i)
+pub refusal-keeps : (f : AnyCard) → Demand2 f → (m : State) (i : Call) → isDone (f .taps .settle m i .result .word) ≡ false
+    → Unchanged (m .image) (imageBy f m i)
 refusal-keeps =
-    every (λ f. (m : List ℕ) (i : Call) → isDone (f .settle m i .result .word) ≡ false → Unchanged m (imageBy f m i))
+    every (λ f. (m : State) (i : Call) → isDone (f .taps .settle m i .result .word) ≡ false → Unchanged (m .image) (imageBy f m i))
     (λ m i. keeps-where (λ z. isDone (z .result .word) ≡ false) m i (refused-at m i))

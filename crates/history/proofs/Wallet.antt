@@ -1,13 +1,13 @@
 -- THE CONDUCT of the commands on the wallet and the codes: F2, F8, FA, FB, FC. Assumes nothing.
-use Prim.Native.Nat.{ℕ, _+_, _≤_, _<_}
+use Prim.Native.Nat.{ℕ, zero, suc, _+_, _≤_, _<_}
 use native.Mathlib.Omega.{arith}
 use mathlib.Core.Path.{_≡_, refl, ap, _∙_}
 use mathlib.Core.List.{List, [], _∷_}
 use mathlib.Core.Bool.{Bool, true, false, cond}
-use lib.ListN.{length, getD}
+use lib.ListN.{length, getD, drop}
 use lib.Dec.{eqb}
 use borrow.Author.Tests.{ltb-true, leb-true, eqb-true}
-use Rattle.fields.specs.Fields.{View, val, fld}
+use Rattle.fields.specs.Fields.{View, val, Tagged, fld}
 use Rattle.card.specs.declared.Codes.{Codes}
 use Rattle.card.specs.declared.Face.{Face}
 use Rattle.card.specs.Layout.{keyRoom, keyShort, top16, top32}
@@ -16,28 +16,40 @@ use Rattle.card.specs.Valid.{keySize, okFace}
 use Rattle.kept.proofs.Tests.{valid, flagged}
 use Rattle.kept.proofs.Kept.{keeps-create, keeps-sign, keeps-purge, held-key-ok, held-last-ok, purged-key-ok}
 use Rattle.kept.proofs.Next.{ok-wallet-key, ok-wallet, ok-counters, ok-last}
+use Rattle.manual.specs.Words.{hashSize}
 use Rattle.manual.specs.Tags.{CID, Signature}
 use Rattle.manual.specs.declared.Command.the-variants.{ReadCard, CreateWallet, SetPin, Sign, PurgeWallet}
+use Rattle.manual.specs.Request.{code}
 use Rattle.manual.specs.Row.{Matched, fitting, anyByte, keyAnswer, shaped}
-use Rattle.manual.specs.Wallet.{isLoaded, isActive, readFields, readCard, createWallet, setPin, sign, purgeWallet, isNew, count, signedFace}
+use Rattle.manual.specs.Wallet.{statusField, hashQuestions, isLoaded, isActive, readFields, readCard}
+use Rattle.manual.specs.Wallet.{createWallet, setPin, sign, purgeWallet, isNew, count, signedFace}
 use Rattle.manual.specs.Settle.{sentIn}
 use Rattle.story.specs.Sums.{Sheet, History, tap, toldIn, wallets, made, total}
+use Rattle.history.specs.Demands.{allKinds, mayAsk}
 use Rattle.history.proofs.Choice.{by-cases, clash, Did}
 use Rattle.history.proofs.Taps.{Passed}
 use Rattle.history.proofs.Seen.{look, watch, Inv}
-use Rattle.history.proofs.Conduct.{Reports, Conduct, quietly, loaded, emptied, not-purged, same, Climbs}
+use Rattle.history.proofs.Conduct.{Reports, Conduct, quiet, quietly, loaded, emptied, not-purged, same, Climbs}
 use Rattle.history.proofs.Sign.{exact, needed, answer-size, still}
 
 read-reports : (f : Face) (b c : Bool) → isActive f ≡ b → isLoaded f ≡ c → Reports (watch f) (fld CID (f .front .fixed .cid) ∷ readFields f)
-read-reports f false c e g = rw e (quietly (watch f) _ refl)
-read-reports f true false e g = rw (e, g) (record { signed = λ h. refl; remaining = λ h. clash h refl })
-read-reports f true true e g = rw (e, g) (record { signed = λ h. refl; remaining = λ h. (refl, eqb-true (f .front .wallet .status) 2 g) })
+read-reports f false c e g = rw e (record { state = λ h. refl; signed = λ h. clash h refl; remaining = λ h. clash h refl })
+read-reports f true false e g = rw (e, g) (record { state = λ h. refl; signed = λ h. refl; remaining = λ h. clash h refl })
+read-reports f true true e g = rw (e, g) (record { state = λ h. refl; signed = λ h. refl; remaining = λ h. (refl, eqb-true (f .front .wallet .status) 2 g) })
+
+-- a response that tells CID and Status first, and none of the others
+told-state :
+    (f : Face) (fs : List Tagged) → quiet fs ≡ true → Reports (watch f) (fld CID (f .front .fixed .cid) ∷ statusField f ∷ fs)
+told-state f fs n =
+    let z = quietly (watch f) fs n in
+    record { state = λ e. refl; signed = z .signed; remaining = z .remaining }
 
 module _ (m : Matched) (f : Face) (q d a : List ℕ) where
   pub of-readCard : Passed readCard m f (sentIn q) → Conduct ReadCard f q d a
   of-readCard p =
       record {
         reports = read-reports f (isActive f) (isLoaded f) refl refl;
+        asks = refl;
         keeps = λ sh x h r i t s. rw (t .create, t .pin, t .sign, t .purge) i;
         stays = λ o g. o;
         alive = λ u e. clash u refl;
@@ -48,11 +60,14 @@ module _ (m : Matched) (f : Face) (q d a : List ℕ) where
   of-setPin p =
       record {
         reports = quietly _ _ refl;
+        asks = refl;
         keeps = λ sh x h r i t s.
             rw (t .create, t .pin, t .sign, t .purge)
             (record {
               fixed = i .fixed;
-              flags = i .flags;
+              active = i .active;
+              reusable = i .reusable;
+              usecvc = i .usecvc;
               codes = refl;
               status = i .status;
               number = i .number;
@@ -92,14 +107,17 @@ create-stays m f v d a p o g =
 pub of-createWallet : (m : Matched) (f : Face) (q d a : List ℕ) → Passed createWallet m f (sentIn q) → Conduct CreateWallet f q d a
 of-createWallet m f q d a p =
     record {
-      reports = quietly _ _ refl;
+      reports = told-state (createWallet .next f (sentIn q) a) _ refl;
+      asks = rw (emptied (createWallet .needs) (f .front .wallet .status) (p .allows) refl refl) refl;
       keeps = λ sh x h r i t s.
           let n : f .front .wallet .number < top16 = ltb-true _ _ (p .conditions) in
           let u : f .front .wallet .number ≡ wallets h = i .number in
           rw (t .create, t .pin, t .sign, t .purge)
           (record {
             fixed = i .fixed;
-            flags = i .flags;
+            active = i .active;
+            reusable = i .reusable;
+            usecvc = i .usecvc;
             codes = i .codes;
             status = refl;
             number = omega arith;
@@ -115,6 +133,11 @@ of-createWallet m f q d a p =
     }
 
 -- FB
+hash-kinds : (p : ℕ → Bool) (number curve n : ℕ) (l : List ℕ) → p 2 ≡ true → allKinds p (hashQuestions number curve n l) ≡ true
+unfolding hashQuestions
+hash-kinds p number curve zero l e = refl
+hash-kinds p number curve (suc n) l e = rw e (hash-kinds p number curve n (drop hashSize l) e)
+
 sign-stays :
     (m : Matched) (f : Face) (v : View) (d a : List ℕ) → Passed sign m f v → okFace f ≡ true → shaped (sign .questions f v d) a ≡ true
     → isNew v ≡ true → okFace (signedFace f (count v) a) ≡ true
@@ -138,7 +161,9 @@ sign-keeps sh f x h q r a i t true n l y z =
     rw (t .create, t .pin, t .sign, t .purge, n)
     (record {
       fixed = i .fixed;
-      flags = i .flags;
+      active = i .active;
+      reusable = i .reusable;
+      usecvc = i .usecvc;
       codes = i .codes;
       status = i .status;
       number = i .number;
@@ -154,9 +179,14 @@ of-sign m f q d a p =
     let y = needed m f (sentIn q) p in
     record {
       reports = record {
+        state = λ e. clash e refl;
         signed = λ e. refl;
         remaining = λ e. (refl, still (isNew (sentIn q)) f (count (sentIn q)) a ∙ y .alive);
       };
+      asks =
+          by-cases (λ z. allKinds (mayAsk (code Sign) (f .front .wallet .status)) z ≡ true) (isNew (sentIn q))
+          (λ _. hash-kinds _ _ _ (count (sentIn q)) _ (rw (y .alive) refl))
+          (λ _. refl);
       keeps = λ sh x h r i t s.
           sign-keeps sh f x h q r a i t (isNew (sentIn q)) refl (λ n. rw n at s) (y .some) (y .fits);
       stays = λ o g. by-cases (λ z. okFace z ≡ true) (isNew (sentIn q)) (λ n. sign-stays m f (sentIn q) d a p o g n) (λ _. o);
@@ -173,14 +203,17 @@ of-purgeWallet m f q d a p =
     let x = f .front in
     let e : x .wallet .status ≡ 2 = loaded (purgeWallet .needs) (x .wallet .status) (p .allows) refl refl in
     record {
-      reports = quietly _ _ refl;
+      reports = told-state (purgeWallet .next f (sentIn q) a) _ refl;
+      asks = refl;
       keeps = λ sh c h r i t s.
           rw (t .create, t .pin, t .sign, t .purge)
           (record {
             fixed = i .fixed;
-            flags = i .flags;
+            active = i .active;
+            reusable = i .reusable;
+            usecvc = i .usecvc;
             codes = i .codes;
-            status = ap (λ y. afterPurge (y .reusable)) (i .flags);
+            status = ap afterPurge (i .reusable);
             number = i .number;
             total = i .total;
             fits = i .fits;

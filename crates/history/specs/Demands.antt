@@ -1,91 +1,142 @@
 -- DEMANDS 1 TO 3, of any card: two calls on bytes, and what they return and leave. Assumes nothing.
-use Prim.Native.Nat.{ℕ, _+_, _-_, _*_, _≤_}
+use Prim.Native.Nat.{ℕ, _+_, _-_, _*_, _≤_, _<_}
 use mathlib.Core.Path.{_≡_}
 use mathlib.Core.List.{List, [], _∷_, _++_}
-use mathlib.Core.Bool.{Bool, true, false, cond}
+use mathlib.Core.Bool.{Bool, true, false, cond, _&&_, _||_}
 use lib.ListN.{length}
 use lib.Dec.{leb, eqb}
-use Rattle.wire.specs.Wire.{be2, be4}
-use Rattle.wire.proofs.Parts.{Bytes}
-use Rattle.fields.specs.Fields.{has, holds, val, written, Tagged, fld}
+use Rattle.wire.specs.Wire.{be1, be2, be4, Bytes}
+use Rattle.fields.specs.Fields.{View, has, holds, val, written, Tagged, fld, tlv}
 use Rattle.card.specs.declared.Card.{Card}
 use Rattle.card.specs.Layout.{signatureSize, top32}
 use Rattle.card.specs.Values.{fresh}
 use Rattle.card.specs.Image.{decode}
 use Rattle.card.specs.Valid.{isCard}
-use Rattle.manual.specs.Words.{swProcessCompleted, questionsRoom, responseRoom, drawSize}
-use Rattle.manual.specs.Tags.{CID, PIN1, PIN2, CVC, TransactionHash, Signature, Remaining, SignedHashes}
-use Rattle.manual.specs.declared.Command.the-variants.{Sign}
-use Rattle.manual.specs.Row.{asked}
+use Rattle.manual.specs.Words.{swProcessCompleted, swErrorProcessingCommand, questionsRoom, responseRoom, drawSize}
+use Rattle.manual.specs.Words.{swWrongLength, swNeedEncryption, swInvalidStatus, swInvalidParams, swInsNotSupported, swClaNotSupported}
+use Rattle.manual.specs.Tags.{CID, PIN1, PIN2, CVC, Status, Challenge, TransactionHash, Signature, Remaining, SignedHashes}
+use Rattle.manual.specs.declared.Command.{Command}
+use Rattle.manual.specs.declared.Command.the-variants.{CreateWallet, CheckWallet, Sign}
+use Rattle.manual.specs.Request.{code, listed, insOf}
+use Rattle.manual.specs.Row.{Question, question, asked, shaped}
 use Rattle.manual.specs.Wallet.{isNew, count, hashQuestions}
-use Rattle.manual.specs.Settle.{holding, Call, sentIn, Posed, Settled, askedFor, settled, settledBy, posed, posedBy, outcome, untouched, over, roomy}
+use Rattle.manual.specs.Wallet.{signFields as hashesSent}
+use Rattle.manual.specs.Checking.{salt}
+use Rattle.manual.specs.Settle.{State, holding, Call, askCall, sentIn, Posed, Settled, askedFor}
+use Rattle.manual.specs.Settle.{settled, settledBy, posed, posedBy, outcome, untouched, over, roomy}
 use Rattle.story.specs.Sums.{Sheet, Tap, History, tap, toldIn, isDone, accepted, ins, did, signedNew}
-use Rattle.story.specs.Sums.{wallets, status, everPurged, made, total, codes, given, usesWallet}
+use Rattle.story.specs.Sums.{active, wallets, status, everPurged, made, total, codes, given, usesWallet}
 use Rattle.story.specs.Buffers.{questions, response, image}
 
--- ANY CARD: ask and settle, of an image and a call
+-- ANY CARD: what it can do, by kinds of calls; today a tap's ask and settle
+pub record Taps : Type 0 where
+  pub ask : State → Call → Posed
+  pub settle : State → Call → Settled
+
 pub record AnyCard : Type 0 where
-  pub ask : List ℕ → Call → Posed
-  pub settle : List ℕ → Call → Settled
+  pub taps : Taps
 
 -- DEMAND 1: every call, whatever it is given, ends as the table of 01, "Two calls", says
 -- numbers 1 to 3 in their order, of the image, the buffers and the draw; 0 where none of them applies
 abbrev pub stop : Bool → Bool → Bool → ℕ
 stop card room draw = cond card (cond room (cond draw 0 3) 2) 1
 
-abbrev pub askStop : List ℕ → Call → ℕ
-askStop m i = stop (isCard m) (leb questionsRoom (length (i .buffers .page))) (eqb (length (i .draw)) drawSize)
+abbrev pub askStop : State → Call → ℕ
+askStop s i = stop (isCard (s .image)) (leb questionsRoom (length (i .buffers .page))) (eqb (length (i .draw)) drawSize)
 
-abbrev pub settleStop : List ℕ → Call → ℕ
-settleStop m i = stop (isCard m) (roomy (length (i .buffers .out)) (length (i .buffers .next))) (eqb (length (i .draw)) drawSize)
+abbrev pub settleStop : State → Call → ℕ
+settleStop s i =
+    stop (isCard (s .image)) (roomy (length (i .buffers .out)) (length (i .buffers .next))) (eqb (length (i .draw)) drawSize)
 
--- ask, then: a status word and zero questions, or 9000 and questions that fit the buffer
+-- the status words of checks 1 to 12, which ask may say, and with that of check 13, which settle may
+abbrev pub isRefusal : ℕ → Bool
+isRefusal w =
+    eqb w swWrongLength
+    || (eqb w swClaNotSupported || (eqb w swInsNotSupported || (eqb w swNeedEncryption || (eqb w swInvalidParams || eqb w swInvalidStatus))))
+
+abbrev pub settleRefusal : ℕ → Bool
+settleRefusal w = isRefusal w || eqb w swErrorProcessingCommand
+
+-- ask, then: a status word of checks 1 to 12 and zero questions, or 9000 and questions that fit the buffer
 pub data Asked (i : Call) (x : Posed) : Type 0 where
-  noneAsked : (w : ℕ) → isDone w ≡ false → x ≡ posed w [] (i .buffers .page) → Asked i x
+  noneAsked : (w : ℕ) → isRefusal w ≡ true → x ≡ posed w [] (i .buffers .page) → Asked i x
   allAsked : (v : List ℕ) → length v ≤ questionsRoom → x ≡ posed swProcessCompleted v (i .buffers .page) → Asked i x
 
 -- settle, then: number 4 and nothing written; a refusal, a response of two bytes, with the old image; or fields that fit the buffer, with a card as the
 -- next image
-pub data Ended (m : List ℕ) (i : Call) (x : Settled) : Type 0 where
-  shapeless : x ≡ untouched 4 (i .buffers .out) (i .buffers .next) → Ended m i x
-  refusal : (w : ℕ) → isDone w ≡ false → x ≡ settledBy (outcome 0 w 2) (over (be2 w) (i .buffers .out)) (over m (i .buffers .next)) → Ended m i x
+pub data Ended (s : State) (i : Call) (x : Settled) : Type 0 where
+  shapeless : x ≡ untouched 4 (i .buffers .out) (i .buffers .next) → Ended s i x
+  refusal :
+      (w : ℕ) → settleRefusal w ≡ true → x ≡ settledBy (outcome 0 w 2) (over (be2 w) (i .buffers .out)) (over (s .image) (i .buffers .next))
+      → Ended s i x
   carriedOut :
       (w : ℕ) (fields m′ : List ℕ) → isDone w ≡ true → length fields + 2 ≤ responseRoom → isCard m′ ≡ true
-      → x ≡ settledBy (outcome 0 w (length fields + 2)) (over (fields ++ be2 w) (i .buffers .out)) (over m′ (i .buffers .next)) → Ended m i x
+      → x ≡ settledBy (outcome 0 w (length fields + 2)) (over (fields ++ be2 w) (i .buffers .out)) (over m′ (i .buffers .next)) → Ended s i x
+
+-- ask said x and settle, with these answers, y: settle says the status word of ask's refusal; number 4 exactly where checks 1 to 12 pass and the answers do
+-- not answer ask's questions; and it refuses what passed with 6286 alone
+pub record Agree (answers : List ℕ) (x : Posed) (y : Settled) : Type 0 where
+  pub these : List Question
+  pub bytes : questions x ≡ asked these
+  pub refuses : isDone (x .result .word) ≡ false → y .result .word ≡ x .result .word
+  pub four : y .result .number ≡ 4 → (x .result .word ≡ swProcessCompleted) × (shaped these answers ≡ false)
+  pub fits : x .result .word ≡ swProcessCompleted → shaped these answers ≡ false → y .result .number ≡ 4
+  pub thirteen :
+      x .result .word ≡ swProcessCompleted → y .result .number ≡ 0 → isDone (y .result .word) ≡ false → y .result .word ≡ swErrorProcessingCommand
 
 pub record Demand1 (f : AnyCard) : Type 0 where
-  pub askStops : (m : List ℕ) (i : Call) → eqb (askStop m i) 0 ≡ false → f .ask m i ≡ posedBy (outcome (askStop m i) 0 0) (i .buffers .page)
-  pub asks : (m : List ℕ) (i : Call) → askStop m i ≡ 0 → Asked i (f .ask m i)
-  pub settleStops : (m : List ℕ) (i : Call) → eqb (settleStop m i) 0 ≡ false → f .settle m i ≡ untouched (settleStop m i) (i .buffers .out) (i .buffers .next)
-  pub settles : (m : List ℕ) (i : Call) → Bytes m → settleStop m i ≡ 0 → Ended m i (f .settle m i)
+  pub askStops : (s : State) (i : Call) → eqb (askStop s i) 0 ≡ false → f .taps .ask s i ≡ posedBy (outcome (askStop s i) 0 0) (i .buffers .page)
+  pub asks : (s : State) (i : Call) → askStop s i ≡ 0 → Asked i (f .taps .ask s i)
+  pub settleStops :
+      (s : State) (i : Call) → eqb (settleStop s i) 0 ≡ false → f .taps .settle s i ≡ untouched (settleStop s i) (i .buffers .out) (i .buffers .next)
+  pub settles : (s : State) (i : Call) → Bytes (s .image) → settleStop s i ≡ 0 → Ended s i (f .taps .settle s i)
+  -- ask was given the same request and draw, and a page with room
+  pub agrees :
+      (s : State) (i : Call) (page : List ℕ) → questionsRoom ≤ length page → settleStop s i ≡ 0
+      → Agree (i .answers) (f .taps .ask s (askCall (i .request) (i .draw) page)) (f .taps .settle s i)
 
 -- DEMAND 2: it answers and changes the card exactly as the manual says
 pub record Demand2 (f : AnyCard) : Type 0 where
-  pub asks : (m : List ℕ) (i : Call) → f .ask m i ≡ askedFor (holding m) i
-  pub settles : (m : List ℕ) (i : Call) → f .settle m i ≡ settled (holding m) i
+  pub asks : (s : State) (i : Call) → f .taps .ask s i ≡ askedFor s i
+  pub settles : (s : State) (i : Call) → f .taps .settle s i ≡ settled s i
 
--- PLAY. What a call adds to the history, and the image that calls leave
-abbrev pub tapBy : AnyCard → List ℕ → Call → Tap
-tapBy f m i = tap (i .request) (response (f .settle m i))
+-- WHAT HAPPENS to a card: a tap is settled
+pub data Event : Type 0 where
+  tapped : Call → Event
 
-abbrev pub imageBy : AnyCard → List ℕ → Call → List ℕ
-imageBy f m i = image m (f .settle m i)
+abbrev pub tapsOf : List Call → List Event
+tapsOf [] = []
+tapsOf (i ∷ is) = tapped i ∷ tapsOf is
 
-abbrev pub left : AnyCard → List ℕ → List Call → List ℕ
-left f m [] = m
-left f m (i ∷ is) = left f (imageBy f m i) is
+-- what a tap adds to the history, and the image that it leaves
+abbrev pub tapBy : AnyCard → State → Call → Tap
+tapBy f s i = tap (i .request) (response (f .taps .settle s i))
 
--- the history after calls, before which h stood
-abbrev pub played : AnyCard → List ℕ → History → List Call → History
-played f m h [] = h
-played f m h (i ∷ is) = played f (imageBy f m i) (tapBy f m i ∷ h) is
+abbrev pub imageBy : AnyCard → State → Call → List ℕ
+imageBy f s i = image (s .image) (f .taps .settle s i)
+
+-- an event leaves a state, and adds no tap to the history or one
+abbrev pub leaves : AnyCard → State → Event → State
+leaves f s (tapped i) = holding (imageBy f s i)
+
+abbrev pub adds : AnyCard → State → Event → List Tap
+adds f s (tapped i) = tapBy f s i ∷ []
+
+-- PLAY: the state that events leave, and the history after them, before which h stood
+abbrev pub left : AnyCard → State → List Event → State
+left f s [] = s
+left f s (e ∷ es) = left f (leaves f s e) es
+
+abbrev pub played : AnyCard → State → History → List Event → History
+played f s h [] = h
+played f s h (e ∷ es) = played f (leaves f s e) (adds f s e ++ h) es
 
 -- the image is a fresh card of the sheet
 pub record Fresh (sh : Sheet) (m : List ℕ) : Type 0 where
   pub card : isCard m ≡ true
   pub spells : decode m ≡ fresh (sh .fixed) (sh .flags) (sh .codes)
 
--- DEMAND 3. Below, h is the history so far, i the call made next, x the questions that ask wrote for it, r the response to it
+-- DEMAND 3. Below, h is the history so far, t the tap made next, i the call that made it, x the questions that ask wrote for it
 -- SIGN's response: CID, signatures, Remaining and Signed_Hashes
 abbrev pub signFields : List ℕ → List ℕ → ℕ → ℕ → List Tagged
 signFields cid signatures remaining hashes =
@@ -96,46 +147,107 @@ abbrev pub signResponse : Sheet → History → List ℕ → List ℕ
 signResponse sh h signatures =
     written (signFields (sh .fixed .cid) signatures (sh .fixed .max - made h) (total h)) ++ be2 swProcessCompleted
 
--- a SIGN that made new signatures did so on an activated card with a live wallet, on PIN1, PIN2 and, where used, CVC as the history shows them to be in
--- force; it asked for that wallet and those hashes, in order, and the answers to that are the signatures told, which stand in the response where `bytes` says
-pub record Rightful (sh : Sheet) (h : History) (i : Call) (x r : List ℕ) : Type 0 where
-  pub activated : sh .flags .active ≡ 1
-  pub alive : status sh h ≡ 2
-  pub pin1 : holds PIN1 (sentIn (i .request)) (codes sh h .pin1) ≡ true
-  pub pin2 : holds PIN2 (sentIn (i .request)) (codes sh h .pin2) ≡ true
-  pub cvc : sh .flags .usecvc ≡ 1 → holds CVC (sentIn (i .request)) (sh .fixed .cvc) ≡ true
-  pub questions :
-      questionsRoom ≤ length (i .buffers .page)
-      → x ≡ asked (hashQuestions (wallets h) (sh .fixed .curve) (count (sentIn (i .request))) (val TransactionHash (sentIn (i .request))))
-  pub size : length (i .answers) ≡ count (sentIn (i .request)) * signatureSize
-  pub answers : val Signature (toldIn r) ≡ i .answers
-  pub bytes : r ≡ signResponse sh (tap (i .request) r ∷ h) (i .answers)
+-- the request was sent to an activated card in this Status, on PIN1 and, if `secret`, on PIN2 and, where used, CVC as the history shows them to be in force
+pub record Entitled (sh : Sheet) (h : History) (v : View) (wanted : ℕ) (secret : Bool) : Type 0 where
+  pub activated : active sh h ≡ 1
+  pub state : status sh h ≡ wanted
+  pub pin1 : holds PIN1 v (codes sh h .pin1) ≡ true
+  pub pin2 : secret ≡ true → holds PIN2 v (codes sh h .pin2) ≡ true
+  pub cvc : secret ≡ true → sh .flags .usecvc ≡ 1 → holds CVC v (sh .fixed .cvc) ≡ true
 
--- ONE MORE CALL: new signatures are rightful; a repeat tells those newly given last, and asks nothing; every accepted command was sent on the PIN1 in
--- force; Remaining and Signed_Hashes, wherever they are told, are those of the history; a card that was purged and is not reusable makes neither wallet nor
--- wallet signature again
-pub record OneMore (sh : Sheet) (h : History) (i : Call) (x r : List ℕ) : Type 0 where
-  pub signs : signedNew (tap (i .request) r) ≡ true → Rightful sh h i x r
-  pub repeats :
-      did Sign (tap (i .request) r) ≡ true → isNew (sentIn (i .request)) ≡ false
-      → (r ≡ signResponse sh (tap (i .request) r ∷ h) (given h)) × (x ≡ [])
-  pub pin1 : accepted r ≡ true → holds PIN1 (sentIn (i .request)) (codes sh h .pin1) ≡ true
-  pub remaining :
-      accepted r ≡ true → has Remaining (toldIn r) ≡ true
-      → val Remaining (toldIn r) ≡ be4 (sh .fixed .max - made (tap (i .request) r ∷ h))
-  pub signedHashes : accepted r ≡ true → has SignedHashes (toldIn r) ≡ true → val SignedHashes (toldIn r) ≡ be4 (total (tap (i .request) r ∷ h))
-  pub ended : sh .flags .reusable ≡ 0 → everPurged h ≡ true → usesWallet (ins (i .request)) ≡ true → (accepted r ≡ false) × (x ≡ [])
+-- and asks for new signatures, in their form, of a wallet that has some left
+pub record NewSign (sh : Sheet) (h : History) (v : View) : Type 0 where
+  pub entitled : Entitled sh h v 2 true
+  pub remains : made h < sh .fixed .max
+  pub isNew : isNew v ≡ true
+  pub hashes : hashesSent v ≡ true
 
--- THE CARD that a history left: while a wallet lives, Remaining and the SIGNs that made new signatures since its creation make up the maximum;
--- Signed_Hashes is all hashes newly signed in the card's life, and that fits 32 bits
+-- a question of this wallet for each hash, in order
+abbrev pub signQuestions : Sheet → History → View → List Question
+signQuestions sh h v = hashQuestions (wallets h) (sh .fixed .curve) (count v) (val TransactionHash v)
+
+-- QUESTIONS. Nothing is asked, or what is due
+pub data Asks (Due : Type 0) (these : List Question) (x : List ℕ) : Type 0 where
+  nothing : x ≡ [] → Asks Due these x
+  due : Due → x ≡ asked these → Asks Due these x
+
+-- questions of these kinds alone
+abbrev pub allKinds : (ℕ → Bool) → List Question → Bool
+allKinds p [] = true
+allKinds p (x ∷ xs) = p (x .kind) && allKinds p xs
+
+pub record Poses (p : ℕ → Bool) (x : List ℕ) : Type 0 where
+  pub these : List Question
+  pub bytes : x ≡ asked these
+  pub kinds : allKinds p these ≡ true
+
+-- kind 1 is a wallet's making, kinds 2 and 3 are its signatures; the others are the card key's and the issuer's
+abbrev pub isCardKind : ℕ → Bool
+isCardKind k = leb 4 k
+
+-- which of them a command may ask in a Status
+abbrev pub mayAsk : ℕ → ℕ → ℕ → Bool
+mayAsk n state k =
+    isCardKind k
+    || ((eqb k 1 && (eqb n (code CreateWallet) && eqb state 1))
+    || ((eqb k 2 && (eqb n (code Sign) && eqb state 2)) || (eqb k 3 && (eqb n (code CheckWallet) && eqb state 2))))
+
+module _ (sh : Sheet) (h : History) (t : Tap) (i : Call) (x : List ℕ) where
+  -- what the request sends, and the response
+  abbrev v : View
+  v = sentIn (t .request)
+
+  abbrev r : List ℕ
+  r = t .response
+
+  -- a SIGN that made new signatures was due them; it asked for that wallet and those hashes, in order, and the answers to that are the signatures told,
+  -- which stand in the response where `bytes` says
+  pub record Rightful : Type 0 where
+    pub isDue : NewSign sh h v
+    pub questions : questionsRoom ≤ length (i .buffers .page) → x ≡ asked (signQuestions sh h v)
+    pub size : length (i .answers) ≡ count v * signatureSize
+    pub answers : val Signature (toldIn r) ≡ i .answers
+    pub bytes : r ≡ signResponse sh (t ∷ h) (i .answers)
+
+  pub record OneMore : Type 0 where
+    -- accepted or not, SIGN asks for signatures, CREATE_WALLET for a key, CHECK_WALLET for the wallet's word on a challenge, only where that is due;
+    -- no command asks for what is not its own; and a card that was purged and is not reusable asks neither for a wallet nor for its signature again
+    pub signAsks : ins (t .request) ≡ code Sign → Asks (NewSign sh h v) (signQuestions sh h v) x
+    pub makeAsks :
+        ins (t .request) ≡ code CreateWallet → Asks (Entitled sh h v 1 true) (question 1 (wallets h + 1) (sh .fixed .curve) [] ∷ []) x
+    pub checkAsks :
+        ins (t .request) ≡ code CheckWallet
+        → (more : List Question)
+        × Asks (Entitled sh h v 2 false) (question 3 (wallets h) (sh .fixed .curve) (val Challenge v ∷ salt (i .draw) ∷ []) ∷ more) x
+    pub poses : Poses (mayAsk (ins (t .request)) (status sh h)) x
+    pub spared : sh .flags .reusable ≡ 0 → everPurged h ≡ true → Poses isCardKind x
+    -- new signatures are rightful; a repeat tells those newly given last, and asks nothing
+    pub signs : signedNew t ≡ true → Rightful
+    pub repeats : did Sign t ≡ true → isNew v ≡ false → (r ≡ signResponse sh (t ∷ h) (given h)) × (x ≡ [])
+    -- what is accepted is a command of the table, was sent on the PIN1 in force, and its response begins with CID
+    pub rows : accepted r ≡ true → listed (insOf (ins (t .request))) ≡ true
+    pub pin1 : accepted r ≡ true → listed (insOf (ins (t .request))) ≡ true → holds PIN1 v (codes sh h .pin1) ≡ true
+    pub cid : accepted r ≡ true → listed (insOf (ins (t .request))) ≡ true → (rest : List ℕ) × (r ≡ tlv CID (sh .fixed .cid) ++ rest)
+    -- Status, Remaining and Signed_Hashes, wherever they are told, are those of the history
+    pub state : accepted r ≡ true → has Status (toldIn r) ≡ true → val Status (toldIn r) ≡ be1 (status sh (t ∷ h))
+    pub remaining : accepted r ≡ true → has Remaining (toldIn r) ≡ true → val Remaining (toldIn r) ≡ be4 (sh .fixed .max - made (t ∷ h))
+    pub signedHashes : accepted r ≡ true → has SignedHashes (toldIn r) ≡ true → val SignedHashes (toldIn r) ≡ be4 (total (t ∷ h))
+    -- a card that was purged and is not reusable makes neither wallet nor wallet signature again
+    pub ended : sh .flags .reusable ≡ 0 → everPurged h ≡ true → usesWallet (ins (t .request)) ≡ true → (accepted r ≡ false) × (x ≡ [])
+
+-- THE CARD that a history left: its Status, wallet number and codes are those that the history shows; while a wallet lives, Remaining and the SIGNs that
+-- made new signatures since its creation make up the maximum; Signed_Hashes is all hashes newly signed in the card's life, and that fits 32 bits
 pub record Kept (sh : Sheet) (h : History) (c : Card) : Type 0 where
+  pub state : c .face .front .wallet .status ≡ status sh h
+  pub number : c .face .front .wallet .number ≡ wallets h
+  pub inForce : c .codes ≡ codes sh h
   pub balance : status sh h ≡ 2 → c .face .front .wallet .remaining + made h ≡ sh .fixed .max
   pub signedHashes : c .face .front .wallet .signed ≡ total h
   pub fits : total h ≤ top32
 
--- both, from a fresh card on: after any calls, refused ones included, each given the image that the last one left
+-- both, from a fresh card on: after any events, refused taps included, each given the state that the last one left
 pub record Demand3 (f : AnyCard) : Type 0 where
-  pub kept : (sh : Sheet) (m : List ℕ) → Fresh sh m → (is : List Call) → Kept sh (played f m [] is) (decode (left f m is))
+  pub kept : (sh : Sheet) (m : List ℕ) → Fresh sh m → (es : List Event) → Kept sh (played f (holding m) [] es) (decode (left f (holding m) es .image))
   pub next :
-      (sh : Sheet) (m : List ℕ) → Fresh sh m → (is : List Call) (i : Call)
-      → OneMore sh (played f m [] is) i (questions (f .ask (left f m is) i)) (response (f .settle (left f m is) i))
+      (sh : Sheet) (m : List ℕ) → Fresh sh m → (es : List Event) (i : Call)
+      → OneMore sh (played f (holding m) [] es) (tapBy f (left f (holding m) es) i) i (questions (f .taps .ask (left f (holding m) es) i))

@@ -1,29 +1,33 @@
--- WRONG CARDS, 01 "How much a promise has to say", and four that a tired engineer might write. proofs/Rejected.antt shows each rejected, by the demand
--- named here. Assumes nothing.
+-- WRONG CARDS, 01 "How much a promise has to say", and others that a tired or a clever engineer might write. proofs/Rejected.antt shows each rejected, by
+-- the demand named here alone. Assumes nothing.
 use Prim.Native.Nat.{ℕ, _+_, _-_}
-use mathlib.Core.List.{List, []}
-use mathlib.Core.Bool.{Bool, false, cond, not, _||_}
-use lib.ListN.{length}
+use mathlib.Core.List.{List, [], _∷_}
+use mathlib.Core.Bool.{Bool, true, false, cond, _&&_}
+use lib.ListN.{length, replicate}
 use lib.Dec.{leb, eqb}
 use Rattle.wire.specs.Wire.{be2}
-use Rattle.fields.specs.Fields.{View, wellFormed, Tagged}
+use Rattle.fields.specs.Fields.{View, val, wellFormed, Tagged}
 use Rattle.card.specs.declared.Wallet.{Wallet}
 use Rattle.card.specs.declared.Face.{Face}
 use Rattle.card.specs.declared.Card.{Card}
 use Rattle.card.specs.Image.{decode}
 use Rattle.card.specs.Valid.{isCard}
-use Rattle.card.specs.Values.{u32, risen, heldLast, purged, withWallet, withCounters, withLast}
+use Rattle.card.specs.Values.{u32, risen, heldKey, heldLast, purged, withWallet, withKey, withCounters, withLast}
 use Rattle.manual.specs.Words.{swProcessCompleted, swInvalidStatus, questionsRoom, drawSize}
 use Rattle.manual.specs.declared.Command.{Command}
-use Rattle.manual.specs.declared.Command.the-variants.{ReadCard, SetPin, Sign, PurgeWallet, WriteIssuerData}
+use Rattle.manual.specs.declared.Command.the-variants.{ReadCard, SetPin, Sign, VerifyCard, PurgeWallet, WriteIssuerData}
 use Rattle.manual.specs.declared.Verdict.{Verdict}
 use Rattle.manual.specs.declared.Verdict.the-variants.{Pass, Stop}
 use Rattle.manual.specs.Request.{code, command, payload}
-use Rattle.manual.specs.Row.{Matched, Question, asked, Row, gateOf, rules, passed}
+use Rattle.manual.specs.Tags.{Challenge}
+use Rattle.manual.specs.Row.{Matched, Question, question, asked, Row, gateOf, rules, passed}
 use Rattle.manual.specs.Wallet.{readCard, sign, purgeWallet, readFields, isNew, count, newCodes}
-use Rattle.manual.specs.Storage.{guarded, sentCounter, writeIssuerData}
+use Rattle.manual.specs.Checking.{verifyCard, salt}
+use Rattle.manual.specs.Storage.{writeIssuerData}
 use Rattle.manual.specs.Commands.{row}
-use Rattle.manual.specs.Settle.{sentIn, matched, wordOf, Said, refused, answered, untouched, outcome, posed, posedBy, lent, roomy}
+use Rattle.manual.specs.Settle.{State, Call, Posed, Settled, sentIn, matched, wordOf, Said}
+use Rattle.manual.specs.Settle.{silent, refused, answered, untouched, outcome, posed, posedBy, lent, roomy}
+use Rattle.story.specs.Sums.{ins}
 use Rattle.history.specs.Demands.{AnyCard}
 
 -- THE INSIDE of a card: what it asks and says of a card that was read from its image, and which card it leaves
@@ -34,29 +38,29 @@ pub record Inside : Type 0 where
   pub leaves : Card → List ℕ → Said → Card
 
 -- numbers 1 to 3, and the buffers, as 01 has them
+abbrev pub asksOutside : Inside → State → Call → Posed
+asksOutside x s i =
+    cond (isCard (s .image))
+    (cond (leb questionsRoom (length (i .buffers .page)))
+    (cond (eqb (length (i .draw)) drawSize)
+    (posed (wordOf (x .verdict (decode (s .image)) (i .request))) (asked (x .asks (decode (s .image)) (i .request) (i .draw))) (i .buffers .page))
+    (posedBy (outcome 3 0 0) (i .buffers .page)))
+    (posedBy (outcome 2 0 0) (i .buffers .page)))
+    (posedBy (outcome 1 0 0) (i .buffers .page))
+
+abbrev pub settlesOutside : Inside → State → Call → Settled
+settlesOutside x s i =
+    let z : Said = x .says (decode (s .image)) (i .request) (i .draw) (i .answers) in
+    cond (isCard (s .image))
+    (cond (roomy (length (i .buffers .out)) (length (i .buffers .next)))
+    (cond (eqb (length (i .draw)) drawSize)
+    (lent z (x .leaves (decode (s .image)) (i .request) z) (i .buffers .out) (i .buffers .next))
+    (untouched 3 (i .buffers .out) (i .buffers .next)))
+    (untouched 2 (i .buffers .out) (i .buffers .next)))
+    (untouched 1 (i .buffers .out) (i .buffers .next))
+
 abbrev pub outside : Inside → AnyCard
-outside x =
-    record {
-      ask =
-          λ m i.
-          cond (isCard m)
-          (cond (leb questionsRoom (length (i .buffers .page)))
-          (cond (eqb (length (i .draw)) drawSize)
-          (posed (wordOf (x .verdict (decode m) (i .request))) (asked (x .asks (decode m) (i .request) (i .draw))) (i .buffers .page))
-          (posedBy (outcome 3 0 0) (i .buffers .page)))
-          (posedBy (outcome 2 0 0) (i .buffers .page)))
-          (posedBy (outcome 1 0 0) (i .buffers .page));
-      settle =
-          λ m i.
-          let s : Said = x .says (decode m) (i .request) (i .draw) (i .answers) in
-          cond (isCard m)
-          (cond (roomy (length (i .buffers .out)) (length (i .buffers .next)))
-          (cond (eqb (length (i .draw)) drawSize)
-          (lent s (x .leaves (decode m) (i .request) s) (i .buffers .out) (i .buffers .next))
-          (untouched 3 (i .buffers .out) (i .buffers .next)))
-          (untouched 2 (i .buffers .out) (i .buffers .next)))
-          (untouched 1 (i .buffers .out) (i .buffers .next));
-    }
+outside x = record { taps = record { ask = asksOutside x; settle = settlesOutside x } }
 
 -- a card with these rows
 abbrev pub judgedBy : (Command → Row) → Card → List ℕ → Verdict
@@ -113,51 +117,35 @@ forgetter = outside (record { verdict = honest .verdict; asks = honest .asks; sa
 abbrev pub but : Command → Row → Command → Row
 but k r j = cond (eqb (code j) (code k)) r (row j)
 
--- a row, but for one column
-abbrev pub withConditions : (Matched → Face → View → Bool) → Row → Row
-withConditions g r =
+-- a row, but for one column of four
+abbrev pub withColumns :
+    (Matched → Face → View → Bool) → (Face → View → List ℕ → List Question) → (Face → View → List ℕ → Face)
+    → (Face → View → List ℕ → List ℕ → List Tagged) → Row → Row
+withColumns conditions questions next fieldsOut r =
     record {
       needs = r .needs;
       pin2 = r .pin2;
       fields = r .fields;
-      conditions = g;
-      questions = r .questions;
+      conditions = conditions;
+      questions = questions;
       confirmed = r .confirmed;
-      next = r .next;
+      next = next;
       recode = r .recode;
-      fieldsOut = r .fieldsOut;
+      fieldsOut = fieldsOut;
       more = r .more;
     }
+
+abbrev pub withConditions : (Matched → Face → View → Bool) → Row → Row
+withConditions g r = withColumns g (r .questions) (r .next) (r .fieldsOut) r
+
+abbrev pub withQuestions : (Face → View → List ℕ → List Question) → Row → Row
+withQuestions g r = withColumns (r .conditions) g (r .next) (r .fieldsOut) r
 
 abbrev pub withNext : (Face → View → List ℕ → Face) → Row → Row
-withNext g r =
-    record {
-      needs = r .needs;
-      pin2 = r .pin2;
-      fields = r .fields;
-      conditions = r .conditions;
-      questions = r .questions;
-      confirmed = r .confirmed;
-      next = g;
-      recode = r .recode;
-      fieldsOut = r .fieldsOut;
-      more = r .more;
-    }
+withNext g r = withColumns (r .conditions) (r .questions) g (r .fieldsOut) r
 
 abbrev pub withFieldsOut : (Face → View → List ℕ → List ℕ → List Tagged) → Row → Row
-withFieldsOut g r =
-    record {
-      needs = r .needs;
-      pin2 = r .pin2;
-      fields = r .fields;
-      conditions = r .conditions;
-      questions = r .questions;
-      confirmed = r .confirmed;
-      next = r .next;
-      recode = r .recode;
-      fieldsOut = g;
-      more = r .more;
-    }
+withFieldsOut g r = withColumns (r .conditions) (r .questions) (r .next) g r
 
 -- 4. HONOURS THE FIRST SIGN AND AFTERWARDS REPEATS ITS SIGNATURES (demands 2 and 3): it asks, and counts, and answers the old ones
 abbrev pub keptLast : Face → Face → Face
@@ -175,12 +163,12 @@ boasting f =
 abbrev pub proud : AnyCard
 proud = outside (byRows (but ReadCard (withFieldsOut (λ f v d a. readFields (boasting f)) readCard)))
 
--- 6. TAKES A NOTE WHOSE COUNTER IS NOT ABOVE THE STORED ONE (demand 2), as the old practice card did
-abbrev pub notBelow : Matched → Face → View → Bool
-notBelow m f v = not (guarded f) || leb (f .held .issuer .counter) (sentCounter v)
+-- 6. TAKES ANY NOTE, whatever its counter (demand 2), as the old practice card did
+abbrev pub oldRows : Command → Row
+oldRows = but WriteIssuerData (withConditions (λ m f v. true) writeIssuerData)
 
 abbrev pub oldCard : AnyCard
-oldCard = outside (byRows (but WriteIssuerData (withConditions notBelow writeIssuerData)))
+oldCard = outside (byRows oldRows)
 
 -- 7. TAKES A SIGNATURE OFF REMAINING PER HASH (demand 3)
 abbrev pub spentEach : ℕ → Wallet → Wallet
@@ -203,3 +191,50 @@ hasty = outside (record { verdict = honest .verdict; asks = honest .asks; says =
 abbrev pub hoarder : AnyCard
 hoarder =
     outside (byRows (but PurgeWallet (withNext (λ f v a. withWallet (purged (f .front .flags .reusable) (f .front .wallet)) f) purgeWallet)))
+
+-- 10. ASKS FOR THE SIGNATURES of any new SIGN, whatever the codes (demand 3); what it says is right
+abbrev pub eagerly : Card → List ℕ → List ℕ → List Question
+eagerly c q d =
+    cond (eqb (ins q) (code Sign) && isNew (sentIn q)) (sign .questions (c .face) (sentIn q) d) (honest .asks c q d)
+
+abbrev pub eager : AnyCard
+eager = outside (record { verdict = honest .verdict; asks = eagerly; says = honest .says; leaves = honest .leaves })
+
+-- 11. RISES FROM A PURGE (demand 3): VERIFY_CARD leaves it Loaded, with a key of its own making
+abbrev pub arisen : Face → Face
+arisen f =
+    let w : Wallet = f .front .wallet in
+    withKey (heldKey (4 ∷ replicate 64 9)) (withWallet (record { status = 2; number = w .number; remaining = w .remaining; signed = w .signed }) f)
+
+abbrev pub riser : AnyCard
+riser = outside (byRows (but VerifyCard (withNext (λ f v a. cond (eqb (f .front .wallet .status) 3) (arisen f) f) verifyCard)))
+
+-- 12. TELLS A PURGED CARD TO BE LOADED (demand 3)
+abbrev pub teller : AnyCard
+teller = outside (byRows (but ReadCard (withFieldsOut (λ f v d a. readFields (cond (eqb (f .front .wallet .status) 3) (arisen f) f)) readCard)))
+
+-- 13. HAS THE PURGED WALLET SIGN (demand 3): VERIFY_CARD asks kind 3 in place of 4
+abbrev pub forged : Face → View → List ℕ → List Question
+forged f v d =
+    cond (eqb (f .front .wallet .status) 3)
+    (question 3 (f .front .wallet .number) (f .front .fixed .curve) (val Challenge v ∷ salt d ∷ []) ∷ [])
+    (verifyCard .questions f v d)
+
+abbrev pub forger : AnyCard
+forger = outside (byRows (but VerifyCard (withQuestions forged verifyCard)))
+
+-- 14. SIGNS BY ANOTHER COMMAND (demand 3): VERIFY_CARD asks for the signature of a hash
+abbrev pub notary : AnyCard
+notary = outside (byRows (but VerifyCard (withQuestions (λ f v d. sign .questions f v d) verifyCard)))
+
+-- 15. ASK SAYS 1234, whatever it is asked (demand 1)
+abbrev pub mute : AnyCard
+mute = outside (record { verdict = λ c q. Stop 12 0x1234; asks = λ c q d. []; says = honest .says; leaves = honest .leaves })
+
+-- 16. SETTLE SAYS NUMBER 4, whatever it is answered (demand 1)
+abbrev pub stubborn : AnyCard
+stubborn = outside (record { verdict = honest .verdict; asks = honest .asks; says = λ c q d a. silent 4 (c .face); leaves = honest .leaves })
+
+-- 17. REFUSES WITH A WORD OF ITS OWN MAKING (demand 1): ask says 6A86 where settle says 6F00
+abbrev pub inventor : AnyCard
+inventor = outside (record { verdict = honest .verdict; asks = honest .asks; says = λ c q d a. refused 0x6F00 (c .face); leaves = λ c q s. c })

@@ -8,9 +8,8 @@ use lib.ListN.{length, drop, replicate, length-append}
 use lib.Seq.{take-at}
 use lib.Dec.{leb}
 use borrow.Author.Tests.{leb-true, eq-eqb}
-use Rattle.wire.specs.Wire.{part, Wrote, Wrotes, joined, be2}
+use Rattle.wire.specs.Wire.{part, Wrote, Wrotes, joined, be2, Bytes}
 use Rattle.wire.proofs.Laws.{runs, all-run, then, front, both-true, part-plain}
-use Rattle.wire.proofs.Parts.{Bytes}
 use Rattle.fields.specs.Fields.{View, viewOf, each, written, wellFormed}
 use Rattle.sent.specs.Sent.{places, viewBy, Filled}
 use Rattle.sent.proofs.Laws.{same-view, fill-form}

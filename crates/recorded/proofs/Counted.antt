@@ -14,9 +14,9 @@ use Rattle.manual.specs.declared.Command.{Command}
 use Rattle.manual.specs.declared.Command.the-variants.{CreateWallet, Sign, PurgeWallet}
 use Rattle.manual.specs.Request.{code}
 use Rattle.manual.specs.Wallet.{isNew, count}
-use Rattle.manual.specs.Settle.{Call, sentIn}
-use Rattle.story.specs.Sums.{Sheet, Tap, History, accepted, ins, did, signedNew, status, made, total}
-use Rattle.history.specs.Demands.{tapBy, imageBy, left, played, Fresh, Kept}
+use Rattle.manual.specs.Settle.{State, holding, Call, sentIn}
+use Rattle.story.specs.Sums.{Sheet, Tap, History, accepted, ins, did, signedNew, status, since, newSigns, made, total}
+use Rattle.history.specs.Demands.{Event, tapped, tapBy, imageBy, left, played, Fresh, Kept}
 use Rattle.history.proofs.Choice.{clash}
 use Rattle.history.proofs.Images.{model, model-demand3}
 use Rattle.sums.specs.declared.Sums.{Sums}
@@ -52,41 +52,51 @@ adds false false true st r md tot n x y z =
     λ i. record { live = eqb st 2; made = u i; hashes = v i }
 adds false false false st r md tot n x y z = refl
 
+-- the new SIGNs of a wallet, with a tap more
+made-more : (t : Tap) (h : History) → made (t ∷ h) ≡ cond (did CreateWallet t) 0 (cond (signedNew t) (made h + 1) (made h))
+made-more t h = go (did CreateWallet t)
+  where
+    go : (b : Bool) → newSigns (cond b [] (t ∷ since h)) ≡ cond b 0 (cond (signedNew t) (made h + 1) (made h))
+    go true = refl
+    go false = refl
+
 pub counted-more :
     (sh : Sheet) (h : History) (t : Tap)
     → (signedNew t ≡ true → (made h + 1 ≤ top32) × (total h + count (sentIn (t .request)) ≤ top32))
     → counted (sumsOf sh h) t ≡ sumsOf sh (t ∷ h)
 unfolding counted
 counted-more sh h t z =
-    adds (did CreateWallet t) (did PurgeWallet t) (signedNew t) (status sh h) (sh .flags .reusable) (made h) (total h) (count (sentIn (t .request)))
+    rw (made-more t h)
+    (adds (did CreateWallet t) (did PurgeWallet t) (signedNew t) (status sh h) (sh .flags .reusable) (made h) (total h) (count (sentIn (t .request)))
     (λ e. signs-none t (one-ins t CreateWallet Sign refl e))
     (λ e. signs-none t (one-ins t PurgeWallet Sign refl e))
-    z
+    z)
 
 -- the history and the image after one call more
 pub played-more :
-    (m : List ℕ) (h : History) (is : List Call) (i : Call)
-    → played model m h (is ++ (i ∷ [])) ≡ tapBy model (left model m is) i ∷ played model m h is
+    (m : State) (h : History) (es : List Event) (i : Call)
+    → played model m h (es ++ (tapped i ∷ [])) ≡ tapBy model (left model m es) i ∷ played model m h es
 played-more m h [] i = refl
-played-more m h (j ∷ is) i = played-more (imageBy model m j) (tapBy model m j ∷ h) is i
+played-more m h (tapped j ∷ es) i = played-more (holding (imageBy model m j)) (tapBy model m j ∷ h) es i
 
-pub left-more : (m : List ℕ) (is : List Call) (i : Call) → left model m (is ++ (i ∷ [])) ≡ imageBy model (left model m is) i
+pub left-more : (m : State) (es : List Event) (i : Call) → left model m (es ++ (tapped i ∷ [])) ≡ holding (imageBy model (left model m es) i)
 left-more m [] i = refl
-left-more m (j ∷ is) i = left-more (imageBy model m j) is i
+left-more m (tapped j ∷ es) i = left-more (holding (imageBy model m j)) es i
 
 -- THE SUMS FIT after one call more, on a card that began fresh: demand 3 has new hashes below 2^32, and new SIGNs, on a live wallet, within its maximum
 pub sums-fit :
-    (sh : Sheet) (m : List ℕ) → Fresh sh m → sh .fixed .max ≤ top32 → (is : List Call) (i : Call) → signedNew (tapBy model (left model m is) i) ≡ true
-    → (made (played model m [] is) + 1 ≤ top32) × (total (played model m [] is) + count (sentIn (i .request)) ≤ top32)
-sums-fit sh m e x is i z =
-    let h : History = played model m [] is in
-    let t : Tap = tapBy model (left model m is) i in
-    let k : Kept sh (t ∷ h) (decode (left model m (is ++ (i ∷ [])))) =
-    subst (λ (h : History). Kept sh h (decode (left model m (is ++ (i ∷ []))))) (played-more m [] is i) (model-demand3 .kept sh m e (is ++ (i ∷ []))) in
+    (sh : Sheet) (m : List ℕ) → Fresh sh m → sh .fixed .max ≤ top32 → (es : List Event) (i : Call)
+    → signedNew (tapBy model (left model (holding m) es) i) ≡ true
+    → (made (played model (holding m) [] es) + 1 ≤ top32) × (total (played model (holding m) [] es) + count (sentIn (i .request)) ≤ top32)
+sums-fit sh m e x es i z =
+    let h : History = played model (holding m) [] es in
+    let t : Tap = tapBy model (left model (holding m) es) i in
+    let c = decode (left model (holding m) (es ++ (tapped i ∷ [])) .image) in
+    let k : Kept sh (t ∷ h) c = subst (λ (h : History). Kept sh h c) (played-more (holding m) [] es i) (model-demand3 .kept sh m e (es ++ (tapped i ∷ []))) in
     let d = both-true (did Sign t) (isNew (sentIn (i .request))) z .0 in
     let a : did CreateWallet t ≡ false = one-ins t Sign CreateWallet refl d in
     let b : did PurgeWallet t ≡ false = one-ins t Sign PurgeWallet refl d in
-    let alive : status sh h ≡ 2 = model-demand3 .next sh m e is i .signs z .alive in
+    let alive : status sh h ≡ 2 = model-demand3 .next sh m e es i .signs z .isDue .entitled .state in
     let still : status sh (t ∷ h) ≡ 2 = rw (a, b) alive in
     let one : made (t ∷ h) ≡ made h + 1 = rw (a, z) in
     let all : total (t ∷ h) ≡ total h + count (sentIn (i .request)) = rw z in

@@ -4,3 +4,4 @@ pub mod Bad
 pub mod Counted
 pub mod Theorems
 pub mod Told
+pub mod Same

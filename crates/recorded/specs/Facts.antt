@@ -1,4 +1,4 @@
--- What the theorems of a play speak of: its taps as the calls of a history, its sheet, what a history sums up to; and its lines. Assumes nothing.
+-- What the theorems of a play speak of: its taps as the events of a history, its sheet, what a history sums up to; and its lines. Assumes nothing.
 use Prim.Native.Nat.{ℕ, suc, _+_, _≤_}
 use mathlib.Core.Path.{_≡_}
 use mathlib.Core.List.{List, [], _∷_, _++_}
@@ -7,17 +7,17 @@ use lib.ListN.{length}
 use lib.Dec.{eqb}
 use Rattle.text.specs.Lines.{tailAfter}
 use Rattle.personalise.specs.Personalise.{sheetFixed, sheetFlags, sheetCodes}
-use Rattle.manual.specs.Settle.{Call}
 use Rattle.story.specs.Sums.{Sheet, History, status, made, total}
+use Rattle.history.specs.Demands.{Event, tapped}
 use Rattle.tapline.specs.Line.{Recorded}
 use Rattle.sums.specs.declared.Sums.{Sums}
 use Rattle.recording.specs.Recording.{Taps}
 use Rattle.recording.specs.Play.{callOf}
 
--- TAPS AS CALLS
-abbrev pub calls : List Recorded → List Call
-calls [] = []
-calls (t ∷ ts) = callOf t ∷ calls ts
+-- TAPS AS EVENTS
+abbrev pub events : List Recorded → List Event
+events [] = []
+events (t ∷ ts) = tapped (callOf t) ∷ events ts
 
 -- what a sheet says, as the history has it
 abbrev pub sheetOf : List ℕ → Sheet

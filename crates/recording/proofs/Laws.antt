@@ -92,7 +92,8 @@ unfolding settled settledOf
 said-is m i =
     by-cases Read (isCard m)
     (λ _. by-cases Read (roomy (length (i .buffers .out)) (length (i .buffers .next)))
-    (λ _. by-cases Read (eqb (length (i .draw)) drawSize) (λ _. read-lent _ _ (i .buffers .out) (i .buffers .next)) (λ _. read-none 3 (i .buffers .out) (i .buffers .next) refl))
+    (λ _. by-cases Read (eqb (length (i .draw)) drawSize) (λ _. read-lent _ _ (i .buffers .out) (i .buffers .next))
+    (λ _. read-none 3 (i .buffers .out) (i .buffers .next) refl))
     (λ _. read-none 2 (i .buffers .out) (i .buffers .next) refl))
     (λ _. read-none 1 (i .buffers .out) (i .buffers .next) refl)
 

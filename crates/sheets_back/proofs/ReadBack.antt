@@ -8,8 +8,8 @@ use mathlib.Core.List.{List, [], _∷_, _++_}
 use lib.ListN.{length, getD}
 use lib.Dec.{eqb}
 use borrow.Author.Tests.{le-leb, le-ltb, eq-eqb}
-use Rattle.wire.specs.Wire.{alike, pad}
-use Rattle.wire.proofs.Parts.{Bytes, pad-whole}
+use Rattle.wire.specs.Wire.{alike, pad, Bytes}
+use Rattle.wire.proofs.Parts.{pad-whole}
 use Rattle.text.specs.Text.{ascii, allOf, hexValue, isHexDigit, unhex, hexOf, isDigit, isDigits, fitting, numberOf, decimalOf}
 use Rattle.text.specs.Lines.{startOf, fromLine, lineOf}
 use Rattle.text.proofs.Laws.{all-append, length-hexOf, unhex-hexOf, isHex-hexOf, isDigits-decimalOf, plainDecimal-decimalOf, decimal-decimalOf}

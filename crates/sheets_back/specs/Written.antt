@@ -6,7 +6,7 @@ use mathlib.Core.Bool.{true, cond}
 use mathlib.Core.List.{List, [], _∷_, _++_}
 use lib.ListN.{length}
 use lib.Dec.{eqb}
-use Rattle.wire.proofs.Parts.{Bytes}
+use Rattle.wire.specs.Wire.{Bytes}
 use Rattle.text.specs.Text.{ascii, hexOf, isDigits, decimalOf}
 use Rattle.card.specs.declared.Codes.{Codes}
 use Rattle.card.specs.declared.Fixed.{Fixed}

@@ -64,6 +64,10 @@ did k t = accepted (t .response) && eqb (ins (t .request)) (code k)
 abbrev pub signedNew : Tap → Bool
 signedNew t = did Sign t && isNew (sentIn (t .request))
 
+-- whether the card is activated: by the sheet
+abbrev pub active : Sheet → History → ℕ
+active sh h = sh .flags .active
+
 -- wallets made
 abbrev pub wallets : History → ℕ
 wallets [] = 0
@@ -78,10 +82,18 @@ abbrev pub everPurged : History → Bool
 everPurged [] = false
 everPurged (t ∷ h) = did PurgeWallet t || everPurged h
 
--- SIGN commands that made new signatures since this wallet's creation
+-- the history since this wallet's creation
+abbrev pub since : History → History
+since [] = []
+since (t ∷ h) = cond (did CreateWallet t) [] (t ∷ since h)
+
+-- SIGN commands that made new signatures; and those since this wallet's creation
+abbrev pub newSigns : History → ℕ
+newSigns [] = 0
+newSigns (t ∷ h) = cond (signedNew t) (newSigns h + 1) (newSigns h)
+
 abbrev pub made : History → ℕ
-made [] = 0
-made (t ∷ h) = cond (did CreateWallet t) 0 (cond (signedNew t) (made h + 1) (made h))
+made h = newSigns (since h)
 
 -- all hashes newly signed
 abbrev pub total : History → ℕ

@@ -11,7 +11,7 @@ use lib.Seq.{drop-cons, paste, paste-suc}
 use lib.Dec.{ltb, eqb}
 use borrow.Author.Tests.{lt-ltb, le-ltb, le-leb, lt-leb, ne-eqb}
 use Rattle.wire.proofs.Laws.{or-true}
-use Rattle.wire.proofs.Parts.{Bytes}
+use Rattle.wire.specs.Wire.{Bytes}
 use Rattle.text.specs.Text.{allOf, hexValue, isHexDigit, isHex, pairValue, unhex, hexDigit}
 use Rattle.text.specs.Text.{hexOf, isDigit, isDigits, decimalFrom, decimal, plainDecimal, digitsOf, decimalOf}
 

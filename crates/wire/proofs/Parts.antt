@@ -7,7 +7,7 @@ use native.Mathlib.Omega.{arith}
 use lib.ListN.{length, take, drop, getD, replicate, length-append, length-drop, length-replicate}
 use lib.Seq.{take-at, drop-at, drop-drop, drop-cons, take-add, take-all, getD-drop}
 use lib.Dec.{lit<, leb}
-use Rattle.wire.specs.Wire.{part, put, fit, room, pad, num16, num32, be1, be2, be4, allZero}
+use Rattle.wire.specs.Wire.{part, put, fit, room, pad, num16, num32, be1, be2, be4, allZero, Bytes}
 use Rattle.wire.proofs.Laws.{by-cases, length-put, padded, part-plain, has-room, room-true}
 
 -- LENGTHS: what is padded has its length, whatever it is padded from
@@ -94,10 +94,6 @@ beside l n w v e k = (λ i. e i ++ k i) ∙ rw (← drop-drop w n l) (sym (take-
 
 pub whole-part : (l : List ℕ) (n : ℕ) → length l ≡ n → take n (drop 0 l) ≡ l
 whole-part l n h = take-all n l (omega arith)
-
--- every element is a byte
-abbrev pub Bytes : List ℕ → Type 0
-Bytes l = (i : ℕ) → getD l i 0 < 256
 
 module _ (l : List ℕ) (n : ℕ) (b : Bytes l) where
   pub part8 : n + 1 ≤ length l → be1 (getD l n 0) ≡ take 1 (drop n l)

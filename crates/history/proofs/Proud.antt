@@ -1,0 +1,175 @@
+-- THE CARD THAT REPORTS A SIGNED_HASHES OF ITS OWN MAKING is right in all else: it asks as the manual does, leaves the same image, and but for READ_CARD says
+-- the same. Assumes nothing.
+use Prim.Native.Nat.{ℕ}
+use mathlib.Core.Path.{_≡_, refl, sym, ap, _∙_}
+use mathlib.Core.List.{List, [], _++_}
+use mathlib.Core.Bool.{Bool, true, false, cond}
+use lib.ListN.{length, take, drop}
+use lib.Dec.{leb, eqb}
+use Rattle.fields.specs.Fields.{View}
+use Rattle.card.specs.declared.Face.{Face}
+use Rattle.card.specs.declared.Card.{Card}
+use Rattle.card.specs.Layout.{imageSize}
+use Rattle.card.specs.Image.{encode, decode}
+use Rattle.card.specs.Valid.{isCard}
+use Rattle.manual.specs.Words.{swErrorProcessingCommand, questionsRoom, drawSize}
+use Rattle.manual.specs.declared.Command.{Command}
+use Rattle.manual.specs.declared.Command.the-variants.{ReadCard, CreateWallet, CheckWallet, SetPin, Sign, VerifyCard, ValidateCard, PurgeWallet}
+use Rattle.manual.specs.declared.Command.the-variants.{ReadUserData, WriteUserData, WriteIssuerData, ReadIssuerData}
+use Rattle.manual.specs.declared.Verdict.{Verdict}
+use Rattle.manual.specs.declared.Verdict.the-variants.{Pass, Stop}
+use Rattle.manual.specs.Request.{code, command}
+use Rattle.manual.specs.Row.{Matched, Row, asked, shaped, passed}
+use Rattle.manual.specs.Wallet.{readCard, readFields}
+use Rattle.manual.specs.Commands.{row}
+use Rattle.manual.specs.Settle.{State, Call, sentIn, matched, wordOf, Said, silent, refused, done, answered, lent, roomy, untouched, outcome, posed, posedBy}
+use Rattle.manual.specs.Settle.{askedFor, settled}
+use Rattle.story.specs.Buffers.{image}
+use Rattle.history.specs.Demands.{imageBy}
+use Rattle.history.specs.Wrong.{judgedBy, asksBy, saysBy, leavesBy, but, withFieldsOut, boasting, proud}
+use Rattle.history.proofs.Taps.{by-checks, all, words}
+use Rattle.history.proofs.Images.{model}
+use Rattle.history.proofs.Rejected.{honest-accepted}
+
+-- its rows, and a row without what it tells
+abbrev rows : Command → Row
+rows = but ReadCard (withFieldsOut (λ f v d a. readFields (boasting f)) readCard)
+
+abbrev mum : Row → Row
+mum = withFieldsOut (λ f v d a. [])
+
+like : (k : Command) → mum (rows k) ≡ mum (row k)
+like ReadCard = refl
+like CreateWallet = refl
+like CheckWallet = refl
+like SetPin = refl
+like Sign = refl
+like VerifyCard = refl
+like ValidateCard = refl
+like PurgeWallet = refl
+like ReadUserData = refl
+like WriteUserData = refl
+like WriteIssuerData = refl
+like ReadIssuerData = refl
+
+-- of an answered command, what does not hang on what it tells
+record Core (x y : Said) : Type 0 where
+  number : x .number ≡ y .number
+  face : x .face ≡ y .face
+  executed : x .executed ≡ y .executed
+
+core-mum : (r : Row) (m : Matched) (f : Face) (v : View) (d a : List ℕ) → Core (answered r m f v d a) (answered (mum r) m f v d a)
+unfolding answered done
+core-mum r m f v d a = go (shaped (r .questions f v d) a) (r .confirmed a)
+  where
+    go : (b c : Bool)
+        → Core (cond b (cond c (done r m f v d a) (refused swErrorProcessingCommand f)) (silent 4 f))
+        (cond b (cond c (done (mum r) m f v d a) (refused swErrorProcessingCommand f)) (silent 4 f))
+    go true true = record { number = refl; face = refl; executed = refl }
+    go true false = record { number = refl; face = refl; executed = refl }
+    go false c = record { number = refl; face = refl; executed = refl }
+
+module _ (c : Card) (q d a : List ℕ) where
+  same-verdict : judgedBy rows c q ≡ judgedBy row c q
+  same-verdict = ap (λ (r : Row). judgedBy (λ _. r) c q) (like (command q))
+
+  same-asks : (z : Verdict) → asksBy rows z c q d ≡ asksBy row z c q d
+  same-asks (Stop n w) = refl
+  same-asks (Pass k) = ap (λ r. r .questions (c .face) (sentIn q) d) (like k)
+
+  same-core : (z : Verdict) → Core (saysBy rows z c q d a) (saysBy row z c q d a)
+  same-core (Stop n w) = record { number = refl; face = refl; executed = refl }
+  same-core (Pass k) =
+      let m = matched (c .codes) (sentIn q) in
+      let x = core-mum (rows k) m (c .face) (sentIn q) d a in
+      let y = core-mum (row k) m (c .face) (sentIn q) d a in
+      let z = ap (λ r. answered r m (c .face) (sentIn q) d a) (like k) in
+      record {
+        number = x .number ∙ ap (λ w. w .number) z ∙ sym (y .number);
+        face = x .face ∙ ap (λ w. w .face) z ∙ sym (y .face);
+        executed = x .executed ∙ ap (λ w. w .executed) z ∙ sym (y .executed);
+      }
+
+  abbrev proudly : Said
+  proudly = saysBy rows (judgedBy rows c q) c q d a
+
+  abbrev honestly : Said
+  honestly = saysBy row (judgedBy row c q) c q d a
+
+  core : Core proudly honestly
+  core = rw same-verdict (same-core (judgedBy row c q))
+
+  leaves-alike : leavesBy rows c q proudly ≡ leavesBy row c q honestly
+  leaves-alike =
+      λ n. record {
+        face = core .face n;
+        codes = cond (core .executed n) (like (command q) n .recode (sentIn q) (c .codes)) (c .codes);
+      }
+
+  -- but for READ_CARD
+  module _ (e : eqb (code (command q)) (code ReadCard) ≡ false) where
+    same-row : rows (command q) ≡ row (command q)
+    same-row = rw e
+
+    says-alike : proudly ≡ honestly
+    says-alike =
+        ap (λ z. saysBy rows z c q d a) same-verdict
+        ∙ by-checks (λ z. saysBy rows z c q d a ≡ saysBy row z c q d a) (all (row (command q)) (matched (c .codes) (sentIn q)) (c .face) q) (passed q)
+        (words (row (command q)) (matched (c .codes) (sentIn q)) (c .face) q)
+        (λ n w _ _. refl)
+        (λ _. ap (λ r. answered r (matched (c .codes) (sentIn q)) (c .face) (sentIn q) d a) same-row)
+
+-- numbers 1 to 3 are the same
+stages :
+    {A B : Type 0} (P : A → B) (u : ℕ → A) (a b c : Bool) {x y : A} → P x ≡ P y
+    → P (cond a (cond b (cond c x (u 3)) (u 2)) (u 1)) ≡ P (cond a (cond b (cond c y (u 3)) (u 2)) (u 1))
+stages P u true true true e = e
+stages P u true true false e = refl
+stages P u true false c e = refl
+stages P u false b c e = refl
+
+-- the image of what is lent hangs on the number and the card left
+image-lent :
+    (m : List ℕ) (z : Said) (c : Card) (out nxt : List ℕ)
+    → image m (lent z c out nxt) ≡ cond (eqb (z .number) 0) (take imageSize (encode c ++ drop imageSize nxt)) m
+unfolding lent
+image-lent m z c out nxt = go (eqb (z .number) 0) refl
+  where
+    go : (b : Bool) → eqb (z .number) 0 ≡ b → image m (lent z c out nxt) ≡ cond b (take imageSize (encode c ++ drop imageSize nxt)) m
+    go true e = rw e refl
+    go false e = rw (e, e) refl
+
+module _ (s : State) (i : Call) where
+  abbrev c0 : Card
+  c0 = decode (s .image)
+
+  pub proud-asks : proud .taps .ask s i ≡ askedFor s i
+  proud-asks =
+      let e = same-verdict c0 (i .request) (i .draw) (i .answers) in
+      stages (λ z. z) (λ n. posedBy (outcome n 0 0) (i .buffers .page)) (isCard (s .image)) (leb questionsRoom (length (i .buffers .page)))
+      (eqb (length (i .draw)) drawSize)
+      (λ n.
+      posed (wordOf (e n))
+      (asked ((ap (λ z. asksBy rows z c0 (i .request) (i .draw)) e ∙ same-asks c0 (i .request) (i .draw) (i .answers) (judgedBy row c0 (i .request))) n))
+      (i .buffers .page))
+      ∙ honest-accepted .asks s i
+
+  pub proud-leaves : imageBy proud s i ≡ imageBy model s i
+  proud-leaves =
+      let x = core c0 (i .request) (i .draw) (i .answers) in
+      let y = leaves-alike c0 (i .request) (i .draw) (i .answers) in
+      stages (image (s .image)) (λ n. untouched n (i .buffers .out) (i .buffers .next)) (isCard (s .image))
+      (roomy (length (i .buffers .out)) (length (i .buffers .next))) (eqb (length (i .draw)) drawSize)
+      (image-lent (s .image) _ _ (i .buffers .out) (i .buffers .next)
+      ∙ (λ n. cond (eqb (x .number n) 0) (take imageSize (encode (y n) ++ drop imageSize (i .buffers .next))) (s .image))
+      ∙ sym (image-lent (s .image) _ _ (i .buffers .out) (i .buffers .next)))
+      ∙ ap (image (s .image)) (honest-accepted .settles s i)
+
+  pub proud-says : eqb (code (command (i .request))) (code ReadCard) ≡ false → proud .taps .settle s i ≡ settled s i
+  proud-says e =
+      let x = says-alike c0 (i .request) (i .draw) (i .answers) e in
+      let y = leaves-alike c0 (i .request) (i .draw) (i .answers) in
+      stages (λ z. z) (λ n. untouched n (i .buffers .out) (i .buffers .next)) (isCard (s .image))
+      (roomy (length (i .buffers .out)) (length (i .buffers .next))) (eqb (length (i .draw)) drawSize)
+      (λ n. lent (x n) (y n) (i .buffers .out) (i .buffers .next))
+      ∙ honest-accepted .settles s i
