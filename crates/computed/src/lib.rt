@@ -1,0 +1,1 @@
+// No code: theorems that tie the code of the C face to the demands.
