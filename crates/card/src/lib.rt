@@ -7,7 +7,7 @@ ghost use mathlib.Core.Bool.{cond};
 ghost use lib.Dec.{ltb};
 ghost use Prim.Native.Nat.{_+_, _-_};
 ghost use Rattle.card.specs.Layout.{top32};
-ghost use Rattle.card.specs.Values.{created, spent, purged, afterPurge, risen, checkedOnce, validatedOnce, fresh};
+ghost use Rattle.card.specs.Values.{u32, created, spent, purged, afterPurge, risen, checkedOnce, validatedOnce, fresh};
 
 // The codes: what no answer may tell.
 pub struct Codes {
@@ -205,20 +205,27 @@ fn one_more(n: u32) -> u32
     if n < Counters::TOP { n + 1 } else { n }
 }
 
+// One more, going from 4,294,967,295 to 0.
+fn turned(n: u32) -> u32
+    ensures { λ r. ⌜ r ≡ u32 (n + 1) ⌝ }
+{
+    std::num::wrapping_add_u32(n, 1)
+}
+
 impl Counters {
     pub const TOP: u32 = 4294967295;
 
     pub const TOP_VALIDATIONS: u16 = 65535;
 
-    // FB: both user counters, going from 4,294,967,295 to 0.
+    // FB: both user counters.
     pub fn signed(self) -> Counters
         ensures { λ r. ⌜ r ≡ risen self ⌝ }
     {
         Counters {
             checks: self.checks,
             validations: self.validations,
-            user: std::num::wrapping_add_u32(self.user, 1),
-            protected: std::num::wrapping_add_u32(self.protected, 1),
+            user: turned(self.user),
+            protected: turned(self.protected),
         }
     }
 

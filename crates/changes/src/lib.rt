@@ -132,11 +132,10 @@ fn purged(img: &[u8], next: &mut [u8])
         (faced (purgedFace (decode (now (img .entry)) .face)) (decode (now (img .entry))))
         (now (next .entry)) (now (next .exit)) ⌝ }
 {
-    let none = [0u8; 0];
     let wallet = image::wallet(img);
     let flags = image::flags(img);
     writing::anew::wallet(next, wallet.purge(flags.reusable));
-    writing::anew::key(next, &none);
+    writing::anew::key(next, wire::part(img, layout::KEY_AT + 1, 0));
 }
 
 // What is there is stored.

@@ -95,8 +95,12 @@ pub const RESPONSE_ROOM: usize = 2048;
 
 pub const DRAW_SIZE: usize = 32;
 
-// A challenge, a salt.
+// A challenge, a salt; where salt and key salt stand in a draw.
 pub const SALT_SIZE: usize = 16;
+
+pub const SALT_AT: usize = 0;
+
+pub const KEY_SALT_AT: usize = SALT_SIZE;
 
 // A request, as a whole.
 pub const LEAST_REQUEST: usize = 6;

@@ -16,7 +16,7 @@ ghost use Rattle.manual.specs.Words.{hashSize};
 ghost use Rattle.manual.specs.Row.{question, headBytes, eachAsked};
 ghost use Rattle.manual.specs.Commands.{row};
 ghost use Rattle.manual.specs.Wallet.{createWallet, sign, hashQuestions};
-ghost use Rattle.manual.specs.Checking.{checkWallet, verifyCard, validateCard};
+ghost use Rattle.manual.specs.Checking.{salt, keySalt, checkWallet, verifyCard, validateCard};
 ghost use Rattle.manual.specs.Storage.{writeIssuerData, counterBytes};
 ghost use Rattle.questions.specs.Keyed.{keyQuestion};
 
@@ -144,6 +144,19 @@ fn pose_sign(img: &[u8], p: &[u8], places: &Places, out: &mut [u8]) -> usize
     pose_hashes(wallet.number, image::curve(img), hashes, out)
 }
 
+// The draw's first half, and its second.
+fn salt(draw: &[u8]) -> &[u8]
+    ensures { λ r. ⌜ now r ≡ salt (now (draw .entry)) ⌝ }
+{
+    wire::part(draw, manual::SALT_AT, manual::SALT_SIZE)
+}
+
+fn key_salt(draw: &[u8]) -> &[u8]
+    ensures { λ r. ⌜ now r ≡ keySalt (now (draw .entry)) ⌝ }
+{
+    wire::part(draw, manual::KEY_SALT_AT, manual::SALT_SIZE)
+}
+
 // F3: Challenge and Salt by the card key.
 fn pose_verify(img: &[u8], p: &[u8], places: &Places, draw: &[u8], out: &mut [u8]) -> usize
     ensures { λ r. ⌜ Wrotes (now (out .entry)) 0
@@ -157,7 +170,7 @@ fn pose_verify(img: &[u8], p: &[u8], places: &Places, draw: &[u8], out: &mut [u8
         wallet.number,
         image::curve(img),
         sent::value(p, places, tag::CHALLENGE),
-        wire::part(draw, 0, manual::SALT_SIZE),
+        salt(draw),
     )
 }
 
@@ -194,7 +207,7 @@ fn pose_check(img: &[u8], p: &[u8], places: &Places, draw: &[u8], out: &mut [u8]
         wallet.number,
         image::curve(img),
         sent::value(p, places, tag::CHALLENGE),
-        wire::part(draw, 0, manual::SALT_SIZE),
+        salt(draw),
     );
     if sent::has(p, places, tag::PUBLIC_KEY_CHALLENGE) {
         return pose_key_check(img, p, places, draw, out, at);
@@ -222,7 +235,7 @@ fn pose_key_check(
     if challenge.len() == 0 {
         return put_one(out, at, SIGN_BY_CARD, wallet.number, curve, key);
     }
-    let salt = wire::part(draw, manual::SALT_SIZE, manual::SALT_SIZE);
+    let salt = key_salt(draw);
     put_key(out, at, wallet.number, curve, key, challenge, salt)
 }
 

@@ -135,8 +135,9 @@ pub fn first_bad(sheet: &[u8]) -> u32
     ensures { λ r. ⌜ r ≡ firstBad (now (sheet .entry)) ⌝ }
 {
     let mut at = 0;
-    let mut line: u32 = 1;
+    let mut good: u32 = 0;
     let bad = loop {
+        let line = good + 1;
         if LINES < line {
             break after_last(line, at, sheet.len());
         }
@@ -144,7 +145,7 @@ pub fn first_bad(sheet: &[u8]) -> u32
             break line;
         }
         at = lines::next_line(sheet, at);
-        line += 1;
+        good = line;
     };
     bad
 }

@@ -233,7 +233,7 @@ fn tell_checked(
         (each (checkedFields (decode (now (img .entry)) .face) (viewBy (now (p .entry)) (now (places .entry))) (now (draw .entry)) (now (answers .entry))))
         (now (out .exit)) r ⌝ }
 {
-    let salted = put_part(out, at, tag::SALT, draw, 0, manual::SALT_SIZE);
+    let salted = put_part(out, at, tag::SALT, draw, manual::SALT_AT, manual::SALT_SIZE);
     let signed = put_part(
         out,
         salted,
@@ -273,7 +273,7 @@ fn tell_key(
         a,
         tag::PUBLIC_KEY_SALT,
         draw,
-        manual::SALT_SIZE,
+        manual::KEY_SALT_AT,
         manual::SALT_SIZE,
     );
     put_card_signature(out, b, answers, Last::SIGNATURE_SIZE)
@@ -298,7 +298,7 @@ fn tell_verified(draw: &[u8], answers: &[u8], out: &mut [u8], at: usize) -> usiz
         (each (verifyCard .fieldsOut f v (now (draw .entry)) (now (answers .entry))))
         (now (out .exit)) r) ⌝ }
 {
-    let a = put_part(out, at, tag::SALT, draw, 0, manual::SALT_SIZE);
+    let a = put_part(out, at, tag::SALT, draw, manual::SALT_AT, manual::SALT_SIZE);
     put_card_signature(out, a, answers, 0)
 }
 

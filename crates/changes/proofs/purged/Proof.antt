@@ -1,4 +1,6 @@
+use mathlib.Core.Path.{_∙_}
 use mathlib.Core.List.{[]}
+use Rattle.wire.proofs.Laws.{part-none}
 use Rattle.writing.proofs.Renewed.{anew-wallet, anew-key}
 use borrow.Author.Needs.{needs}
 use Rattle.changes.proofs.purged.Statement.{statement}
@@ -16,8 +18,11 @@ purge-requires c κs = tt
 wallet-requires-2 : tie.Need-wallet-requires-2
 wallet-requires-2 c κs = tt
 
-slice-aggregate-key : tie.Need-slice-aggregate-key
-slice-aggregate-key c = search needs
+add-part : tie.Need-add-part
+add-part c = search needs
+
+part-requires : tie.Need-part-requires
+part-requires c κs = tt
 
 key-requires : tie.Need-key-requires
 key-requires c κs = tt
@@ -33,7 +38,8 @@ returns c =
     let c4 = c3 .before .before in
     let c5 = c4 .before in
     λ rest h.
-    anew-key [] (c1 .key .ensures) (anew-wallet _ (rw (c3 .purge .ensures, c4 .flags .ensures, c5 .wallet .ensures) at (c2 .wallet2 .ensures)) h)
+    anew-key [] (rw (c1 .before .part .ensures ∙ part-none _ _) at (c1 .key .ensures))
+    (anew-wallet _ (rw (c3 .purge .ensures, c4 .flags .ensures, c5 .wallet .ensures) at (c2 .wallet2 .ensures)) h)
 
 pub purged-spec : {M : Type 1} → statement M
 purged-spec =
@@ -43,7 +49,8 @@ purged-spec =
     flags-requires
     purge-requires
     wallet-requires-2
-    slice-aggregate-key
+    add-part
+    part-requires
     key-requires
     same-length
     returns)

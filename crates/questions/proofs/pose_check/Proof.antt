@@ -13,8 +13,8 @@ curve-requires c κs = tt
 value-requires : tie.Need-value-requires
 value-requires c κs = tt
 
-part-requires : tie.Need-part-requires
-part-requires c κs = tt
+salt-requires : tie.Need-salt-requires
+salt-requires c κs = tt
 
 put-two-requires : tie.Need-put-two-requires
 put-two-requires c κs = tt
@@ -39,7 +39,7 @@ returns c =
     let c7 = c6 .before in
     let c8 = c7 .before .before in
     rw (sym (c3 .has .ensures) ∙ c2 .if1 .taken)
-    (ask-more _ _ (rw (c5 .part .ensures, c6 .value .ensures, c7 .curve .ensures, c8 .wallet .ensures) at (c4 .put-two .ensures)) (c1 .pose-key-check .ensures))
+    (ask-more _ _ (rw (c5 .salt .ensures, c6 .value .ensures, c7 .curve .ensures, c8 .wallet .ensures) at (c4 .put-two .ensures)) (c1 .pose-key-check .ensures))
 
 same-length-2 : tie.Need-same-length-2
 same-length-2 c = search needs
@@ -52,7 +52,7 @@ returns-2 c =
     let c4 = c3 .before in
     let c5 = c4 .before in
     let c6 = c5 .before .before in
-    rw (sym (c1 .has .ensures) ∙ c .if1 .left) (rw (c3 .part .ensures, c4 .value .ensures, c5 .curve .ensures, c6 .wallet .ensures) at (c2 .put-two .ensures))
+    rw (sym (c1 .has .ensures) ∙ c .if1 .left) (rw (c3 .salt .ensures, c4 .value .ensures, c5 .curve .ensures, c6 .wallet .ensures) at (c2 .put-two .ensures))
 
 pub pose-check-spec : {M : Type 1} → statement M
 pose-check-spec =
@@ -61,7 +61,7 @@ pose-check-spec =
     wallet-requires
     curve-requires
     value-requires
-    part-requires
+    salt-requires
     put-two-requires
     has-requires
     pose-key-check-requires

@@ -30,8 +30,8 @@ returns c =
     rw (eq-eqb _ _ (sym (ap length (v .value .ensures)) ∙ i .if1 .taken))
     (rw (v .before .key .ensures, v .before .before .curve .ensures, v .before .before .before .wallet .ensures) at (c .before .before .put-one .ensures))
 
-part-requires : tie.Need-part-requires
-part-requires c κs = tt
+key-salt-requires : tie.Need-key-salt-requires
+key-salt-requires c κs = tt
 
 put-key-requires : tie.Need-put-key-requires
 put-key-requires c κs = tt
@@ -44,7 +44,7 @@ returns-2 c =
     let p = c .before .before .before .before in
     let v = p .before .before in
     rw (ne-eqb _ _ (λ z. p .before .if1 .left (ap length (v .value .ensures) ∙ z)))
-    (rw (p .part .ensures, v .value .ensures, v .before .key .ensures, v .before .before .curve .ensures, v .before .before .before .wallet .ensures)
+    (rw (p .key-salt .ensures, v .value .ensures, v .before .key .ensures, v .before .before .curve .ensures, v .before .before .before .wallet .ensures)
     at (c .before .before .put-key .ensures))
 
 pub pose-key-check-spec : {M : Type 1} → statement M
@@ -58,7 +58,7 @@ pose-key-check-spec =
     put-one-requires
     same-length
     returns
-    part-requires
+    key-salt-requires
     put-key-requires
     same-length-2
     returns-2)

@@ -11,8 +11,8 @@ curve-requires c κs = tt
 value-requires : tie.Need-value-requires
 value-requires c κs = tt
 
-part-requires : tie.Need-part-requires
-part-requires c κs = tt
+salt-requires : tie.Need-salt-requires
+salt-requires c κs = tt
 
 put-two-requires : tie.Need-put-two-requires
 put-two-requires c κs = tt
@@ -27,7 +27,7 @@ returns c =
     let c3 = c2 .before in
     let c4 = c3 .before in
     let c5 = c4 .before .before in
-    rw (c2 .part .ensures, c3 .value .ensures, c4 .curve .ensures, c5 .wallet .ensures) at (c1 .put-two .ensures)
+    rw (c2 .salt .ensures, c3 .value .ensures, c4 .curve .ensures, c5 .wallet .ensures) at (c1 .put-two .ensures)
 
 pub pose-verify-spec : {M : Type 1} → statement M
 pose-verify-spec =
@@ -36,7 +36,7 @@ pose-verify-spec =
     wallet-requires
     curve-requires
     value-requires
-    part-requires
+    salt-requires
     put-two-requires
     same-length
     returns)

@@ -4,7 +4,7 @@ use Rattle.sheet.proofs.Laws.{bad-here, bad-on, bad-end}
 use Rattle.text.specs.Lines.{nextLine, startOf, fromLine}
 use mathlib.Core.Path.{_≡_, refl, sym, ap, _∙_}
 use denote.Ref.{now}
-use Prim.Native.Nat.{ℕ, suc, _-_, _≤_}
+use Prim.Native.Nat.{ℕ, suc, _+_, _-_, _≤_}
 use mathlib.Core.Bool.{cond}
 use lib.ListN.{length, drop}
 use lib.Dec.{ltb}
@@ -19,15 +19,18 @@ unfolding fromLine
 from k at s e = ap (λ (n : ℕ). drop n s) e
 
 abbrev Inv-loop : tie.InvT-loop
-Inv-loop sheet at₀ line₀ at line =
-    (1 ≤ line) × (line ≤ suc sheetLines) × (at ≡ startOf line sheet) × (firstBad sheet ≡ badFrom (suc sheetLines - line) line sheet)
+Inv-loop sheet at₀ good₀ at good =
+    (good ≤ sheetLines) × (at ≡ startOf (good + 1) sheet) × (firstBad sheet ≡ badFrom (suc sheetLines - (good + 1)) (good + 1) sheet)
 
 abbrev μ-loop : tie.MeasureT-loop
-μ-loop sheet at₀ line₀ at line = suc sheetLines - line
+μ-loop sheet at₀ good₀ at good = sheetLines - good
 
 loop-holds : tie.Need-loop-holds Inv-loop μ-loop
 unfolding firstBad startOf
-loop-holds c = (omega arith, omega arith, refl, refl)
+loop-holds c = (omega arith, refl, refl)
+
+add-line : tie.Need-add-line Inv-loop μ-loop
+add-line c = omega arith
 
 after-last-requires : tie.Need-after-last-requires Inv-loop μ-loop
 after-last-requires c κs = tt
@@ -41,9 +44,6 @@ good-line-requires c κs = tt
 next-line-requires : tie.Need-next-line-requires Inv-loop μ-loop
 next-line-requires c κs = tt
 
-add-line : tie.Need-add-line Inv-loop μ-loop
-add-line c = omega arith
-
 loop-less : tie.Need-loop-less Inv-loop μ-loop
 loop-less c = omega arith
 
@@ -52,30 +52,30 @@ loop-again c =
     let g = c .before .before in
     let l = g .before .before .before .loop in
     let s = now (g .before .before .before .before .before .args .sheet) in
-    let h : l .line ≤ sheetLines = omega arith in
-    let r = g .good-line .ensures ∙ ap (goodLine (rowOf (l .line))) (g .before .rest .ensures ∙ from (l .line) (l .at) s (l .inv .2)) in
+    let h : l .good + 1 ≤ sheetLines = omega arith in
+    let r = g .good-line .ensures ∙ ap (goodLine (rowOf (l .good + 1))) (g .before .rest .ensures ∙ from (l .good + 1) (l .at) s (l .inv .1)) in
     let e = sym r ∙ not-false _ (c .before .if2 .left) in
-    let n = c .next-line .ensures ∙ ap (nextLine s) (l .inv .2) ∙ sym (start-next (l .line) s (l .inv .0)) in
-    (omega arith, omega arith, n, l .inv .3 ∙ bad-on (l .line) s (l .inv .0) h e)
+    let n = c .next-line .ensures ∙ ap (nextLine s) (l .inv .1) ∙ sym (start-next (l .good + 1) s (omega arith)) in
+    (omega arith, n, l .inv .2 ∙ bad-on (l .good + 1) s (omega arith) h e)
 
 returns : tie.Need-returns Inv-loop μ-loop
 returns c =
     let l = c .before .before .loop in
     let s = now (c .before .before .before .before .args .sheet) in
-    let z : suc sheetLines - l .line ≡ 0 = omega arith in
+    let z : suc sheetLines - (l .good + 1) ≡ 0 = omega arith in
     c .after-last .ensures
-    ∙ ap (λ (n : ℕ). cond (ltb n (length s)) (l .line) 0) (l .inv .2)
-    ∙ sym (l .inv .3 ∙ ap (λ (n : ℕ). badFrom n (l .line) s) z ∙ bad-end (l .line) s)
+    ∙ ap (λ (n : ℕ). cond (ltb n (length s)) (l .good + 1) 0) (l .inv .1)
+    ∙ sym (l .inv .2 ∙ ap (λ (n : ℕ). badFrom n (l .good + 1) s) z ∙ bad-end (l .good + 1) s)
 
 returns-2 : tie.Need-returns-2 Inv-loop μ-loop
 returns-2 c =
     let g = c .before in
     let l = g .before .before .before .loop in
     let s = now (g .before .before .before .before .before .args .sheet) in
-    let h : l .line ≤ sheetLines = omega arith in
-    let r = g .good-line .ensures ∙ ap (goodLine (rowOf (l .line))) (g .before .rest .ensures ∙ from (l .line) (l .at) s (l .inv .2)) in
+    let h : l .good + 1 ≤ sheetLines = omega arith in
+    let r = g .good-line .ensures ∙ ap (goodLine (rowOf (l .good + 1))) (g .before .rest .ensures ∙ from (l .good + 1) (l .at) s (l .inv .1)) in
     let e = sym r ∙ not-true _ (c .if2 .taken) in
-    sym (l .inv .3 ∙ bad-here (l .line) s (l .inv .0) h e)
+    sym (l .inv .2 ∙ bad-here (l .good + 1) s (omega arith) h e)
 
 pub first-bad-spec : {M : Type 1} → statement M
 first-bad-spec =
@@ -84,11 +84,11 @@ first-bad-spec =
     Inv-loop
     μ-loop
     loop-holds
+    add-line
     after-last-requires
     rest-requires
     good-line-requires
     next-line-requires
-    add-line
     loop-less
     loop-again
     returns
