@@ -114,7 +114,7 @@ module _ (v m : List ℕ) (b : ℕ) (s : List ℕ) (h : belongs (feeds v) ≡ tr
         let z = sheet-begins w s k in
         let x = bad-unended w k in
         let l = leb-true textRoom (length w) f in
-        let n : firstBad (sheetIn (w ++ s)) ≡ firstBad w = ap firstBad (z .1) ∙ sym (bad-early w (z .0) k (omega arith)) in
+        let n : firstBad (sheetIn (w ++ s)) ≡ firstBad w = ap firstBad (z .1) ∙ sym (bad-early w (z .0) (omega arith)) in
         turns (rw f)
         ∙ ap (λ z. z .text ++ heldText (z .play) sheetLines [] (z .image) s) (started-bad w m x)
         ∙ ap (λ (t : List ℕ). badText (firstBad w) ++ t) (held-silent start [] m s)

@@ -1,4 +1,4 @@
--- THE FIRST BAD LINE IS FOUND EARLY: a long text with few line feeds has its first bad line within it, however it goes on. Assumes nothing.
+-- THE FIRST BAD LINE IS FOUND EARLY: a long text has its first bad line within it, however it goes on. Assumes nothing.
 use Prim.Native.Nat.{ℕ, zero, suc, _+_, _-_, _*_, _≤_, _<_}
 use native.Mathlib.Omega.{arith}
 use native.Mathlib.Numerals.{add-one}
@@ -120,19 +120,21 @@ unfolding headTo tailAfter
 tail-long k t e = omega (arith, good-short k t e, length-take (lengthTo 10 t) t, length-drop (lengthTo 10 t + 1) t)
 
 -- THE WALK over a long text, and over the same with more after it
-walks-alike : (n k : ℕ) (t r : List ℕ) → feeds t < n → 80 * n ≤ length t → badIn n k t ≡ badIn n k (t ++ r)
+walks-alike : (n k : ℕ) (t r : List ℕ) → 80 * n < length t → badIn n k t ≡ badIn n k (t ++ r)
 unfolding badIn
-walks-alike zero k t r h l = absurd (omega arith)
-walks-alike (suc n) k t r h l = go (decLt (lengthTo 10 t) (length t)) (λ g. walks-alike n (suc k) (tailAfter 10 t) r)
+walks-alike zero k t r l =
+    let x : 0 < length t = omega (arith, l) in
+    let y : 0 < length (t ++ r) = omega (arith, x, length-append t r) in
+    ap (λ (c : Bool). cond c k 0) (lt-ltb 0 (length t) x ∙ sym (lt-ltb 0 (length (t ++ r)) y))
+walks-alike (suc n) k t r l = go (decLt (lengthTo 10 t) (length t)) (λ g. walks-alike n (suc k) (tailAfter 10 t) r)
   where
     go :
         Dec (lengthTo 10 t < length t)
-        → (goodLine (rowOf k) t ≡ true → feeds (tailAfter 10 t) < n → 80 * n ≤ length (tailAfter 10 t)
-        → badIn n (suc k) (tailAfter 10 t) ≡ badIn n (suc k) (tailAfter 10 t ++ r))
+        → (goodLine (rowOf k) t ≡ true → 80 * n < length (tailAfter 10 t) → badIn n (suc k) (tailAfter 10 t) ≡ badIn n (suc k) (tailAfter 10 t ++ r))
         → badIn (suc n) k t ≡ badIn (suc n) k (t ++ r)
     go (yes x) ih =
         either (goodLine (rowOf k) t)
-        (λ g. ih g (omega (arith, feed-tail t x, h)) (omega (arith, tail-long k t g, l)) ∙ ap (badIn n (suc k)) (sym (tail-same t r x)))
+        (λ g. ih g (omega (arith, tail-long k t g, l)) ∙ ap (badIn n (suc k)) (sym (tail-same t r x)))
         (λ _. refl)
         ∙ ap (λ (c : Bool). cond c (badIn n (suc k) (tailAfter 10 (t ++ r))) k) (sym (line-same t r x k))
     go (no x) ih =
@@ -140,6 +142,21 @@ walks-alike (suc n) k t r h l = go (decLt (lengthTo 10 t) (length t)) (λ g. wal
         let l′ : 80 ≤ length t = omega (arith, l) in
         ap (λ (c : Bool). cond c (badIn n (suc k) (tailAfter 10 t)) k) (bad-open k t r o)
         ∙ sym (ap (λ (c : Bool). cond c (badIn n (suc k) (tailAfter 10 (t ++ r))) k) (bad-long k t r o l′))
+
+-- it has a bad line
+walks-far : (n k : ℕ) (t : List ℕ) → 1 ≤ k → 80 * n < length t → badIn n k t ≡ 0 → ⊥
+unfolding badIn
+walks-far zero k t h l e =
+    let x : 0 < length t = omega (arith, l) in
+    let z : k ≡ 0 = sym (ap (λ (c : Bool). cond c k 0) (lt-ltb 0 (length t) x)) ∙ e in
+    omega (arith, h, z)
+walks-far (suc n) k t h l e = go (goodLine (rowOf k) t) refl e (walks-far n (suc k) (tailAfter 10 t) (omega arith))
+  where
+    go :
+        (c : Bool) → goodLine (rowOf k) t ≡ c → cond c (badIn n (suc k) (tailAfter 10 t)) k ≡ 0
+        → (80 * n < length (tailAfter 10 t) → badIn n (suc k) (tailAfter 10 t) ≡ 0 → ⊥) → ⊥
+    go true g e ih = ih (omega (arith, tail-long k t g, l)) e
+    go false g e ih = omega (arith, e, h)
 
 -- too few line feeds: a line is bad
 walks-bad : (n k : ℕ) (t : List ℕ) → 1 ≤ k → feeds t < n → badIn n k t ≡ 0 → ⊥
@@ -158,10 +175,12 @@ pub bad-unended : (t : List ℕ) → belongs (feeds t) ≡ true → firstBad t �
 unfolding firstBad fromLine startOf
 bad-unended t h e = walks-bad sheetLines 1 t (omega arith) (belongs-few (feeds t) h) (sym (walks sheetLines 1 t (omega arith)) ∙ e)
 
--- and where such a sheet has 80 bytes for each line, it is the same one, however the sheet goes on
-pub bad-early : (t r : List ℕ) → belongs (feeds t) ≡ true → 80 * sheetLines ≤ length t → firstBad t ≡ firstBad (t ++ r)
+-- THE FIRST BAD LINE of a sheet with more than 80 bytes for each line: it is the same one, however the sheet goes on
+pub bad-early : (t r : List ℕ) → 80 * sheetLines < length t → firstBad t ≡ firstBad (t ++ r)
 unfolding firstBad fromLine startOf
-bad-early t r h l =
-    walks sheetLines 1 t (omega arith)
-    ∙ walks-alike sheetLines 1 t r (belongs-few (feeds t) h) l
-    ∙ sym (walks sheetLines 1 (t ++ r) (omega arith))
+bad-early t r l = walks sheetLines 1 t (omega arith) ∙ walks-alike sheetLines 1 t r l ∙ sym (walks sheetLines 1 (t ++ r) (omega arith))
+
+-- and there is one
+pub bad-far : (t : List ℕ) → 80 * sheetLines < length t → firstBad t ≡ 0 → ⊥
+unfolding firstBad fromLine startOf
+bad-far t l e = walks-far sheetLines 1 t (omega arith) l (sym (walks sheetLines 1 t (omega arith)) ∙ e)
