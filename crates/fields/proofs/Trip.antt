@@ -5,18 +5,18 @@ use native.Mathlib.Omega.{arith}
 use native.Mathlib.Decide.{decLt}
 use mathlib.Core.Path.{_≡_, refl, sym, ap, ap₂, _∙_}
 use mathlib.Core.List.{List, [], _∷_, _++_, append-assoc, append-nil}
-use mathlib.Core.Bool.{Bool, true, false, cond, _||_}
+use mathlib.Core.Bool.{Bool, true, false, cond, _||_, _&&_}
 use lib.ListN.{length, getD, take, length-append}
 use lib.Seq.{getD-append-add, getD-append-seam, take-at, drop-at}
 use lib.Dec.{eqb}
 use borrow.Author.Tests.{lt-leb, le-leb, ne-eqb}
-use Rattle.wire.specs.Wire.{part, joined}
+use Rattle.wire.specs.Wire.{part, joined, alike}
 use Rattle.wire.proofs.Laws.{part-plain}
 use Rattle.fields.specs.declared.Step.the-variants.{Field}
 use Rattle.fields.specs.declared.Found.{Found}
-use Rattle.fields.specs.declared.Found.the-variants.{At}
-use Rattle.fields.specs.Fields.{stepAt, fieldAt, headOf, tlv, Tagged, each, written, among, firstOf, Writable, ended, goOn, restFrom, firstIn}
-use Rattle.fields.specs.Fields.{found, valueOf, viewOf, has, val}
+use Rattle.fields.specs.declared.Found.the-variants.{At, Absent}
+use Rattle.fields.specs.Fields.{stepAt, fieldAt, headOf, tlv, Tagged, each, written, among, firstOf, Writable, ended, goOn, restFrom, whole, firstIn}
+use Rattle.fields.specs.Fields.{found, valueOf, holdsAt, viewOf, has, val, holds, wellFormed}
 use Rattle.fields.proofs.Laws.{head-short, head-long, tlv-plain, past, after}
 
 -- the short form
@@ -132,7 +132,11 @@ no-run : {s : List ℕ} {at : ℕ} → Stand s at [] → restFrom s at ≡ ended
 unfolding written joined each
 no-run {s} {at} x = after s at (past s at (omega (arith, ap length (x .bytes ∙ append-nil (x .before)), x .place)))
 
--- a lookup asks whether the field is there, or for its value
+whole-run : {s : List ℕ} {at : ℕ} (fs : List Tagged) → Stand s at fs → Writable fs → whole (restFrom s at) ≡ true
+whole-run [] x h = ap whole (no-run x)
+whole-run (f ∷ fs) x h = ap whole (first-run x (h .0)) ∙ whole-run fs (others x) (h .1)
+
+-- a lookup asks whether the field is there, for its value, or both
 found-cond : (b : Bool) (i j : ℕ) (y : Found) → found (cond b (At i j) y) ≡ (b || found y)
 found-cond true i j y = refl
 found-cond false i j y = refl
@@ -140,6 +144,10 @@ found-cond false i j y = refl
 value-cond : (s : List ℕ) (b : Bool) (i j : ℕ) (y : Found) → valueOf s (cond b (At i j) y) ≡ cond b (part s i j) (valueOf s y)
 value-cond s true i j y = refl
 value-cond s false i j y = refl
+
+holds-both : (s : List ℕ) (y : Found) (code : List ℕ) → holdsAt s y code ≡ (found y && alike (valueOf s y) code)
+holds-both s (At i j) code = refl
+holds-both s Absent code = refl
 
 found-run : (t : ℕ) {s : List ℕ} {at : ℕ} (fs : List Tagged) → Stand s at fs → Writable fs → found (firstIn t (restFrom s at)) ≡ among t fs
 found-run t [] x h = ap (λ r. found (firstIn t r)) (no-run x)
@@ -152,9 +160,13 @@ value-run t {s} (f ∷ fs) x h =
     ap (λ r. valueOf s (firstIn t r)) (first-run x (h .0)) ∙ value-cond s (eqb (f .tag) t) _ _ _
     ∙ ap₂ (cond (eqb (f .tag) t)) (first-value x (h .0)) (value-run t fs (others x) (h .1))
 
--- THE LAWS of written fields, over any list of them and any tag: looking it up finds the first field with it, and that field's value
+-- THE LAWS of written fields, over any list of them and any tag: they are a payload, and looking a tag up finds the first field with it, and that field's value
 stands : (fs : List Tagged) → Stand (written fs) 0 fs
 stands fs = record { before = []; bytes = refl; place = refl }
+
+pub wellFormed-written : (fs : List Tagged) → Writable fs → wellFormed (written fs) ≡ true
+unfolding wellFormed
+wellFormed-written fs h = whole-run fs (stands fs) h
 
 module _ (t : ℕ) (fs : List Tagged) (h : Writable fs) where
   pub has-written : has t (viewOf (written fs)) ≡ among t fs
@@ -164,3 +176,7 @@ module _ (t : ℕ) (fs : List Tagged) (h : Writable fs) where
   pub val-written : val t (viewOf (written fs)) ≡ firstOf t fs
   unfolding val viewOf
   val-written = value-run t fs (stands fs) h
+
+  pub holds-written : (code : List ℕ) → holds t (viewOf (written fs)) code ≡ (among t fs && alike (firstOf t fs) code)
+  unfolding holds has val viewOf
+  holds-written code = holds-both (written fs) (firstIn t (restFrom (written fs) 0)) code ∙ ap₂ (λ b l. b && alike l code) has-written val-written
