@@ -1,0 +1,128 @@
+#!/usr/bin/env python3
+"""Makes crates/firstreads/stdin, inputs for the program `firstreads`, and crates/firstreads/stdout, what it must print.
+
+Run: python3 tests/firstreads.py; with --check it says whether the two files are what it would write. tests/README.md tells what the
+lines mean. What is expected comes from document 01, "The personalisation sheet", by way of the twin's reader of sheets and its settle;
+each case also says beforehand which line is bad, and the script stops where the twin says otherwise.
+"""
+
+import pathlib
+import sys
+
+from twin.card import personalise, settle
+
+PLACE = pathlib.Path(__file__).resolve().parent.parent / "crates" / "firstreads"
+# 01's own example, to the byte: cid AA00000000016675, curve secp256k1, active 1.
+EXAMPLE = "0108AA000000000166750201010509736563703235366B316304000000009000"
+READ_CARD = bytes.fromhex("00F20000221020")  # CLA, INS, P1, P2, Lc, then tag and length of PIN1
+INPUT = 4096  # what firstread reads at most
+GOOD = (
+    b"cid\tAA00000000016675", b"pin1\t" + b"91B4D142823F7D20" * 4, b"pin2\t" + b"2AC9A6746ACA543A" * 4, b"cvc\t123", b"curve\tsecp256k1",
+    b"max\t1000000", b"reusable\t1", b"usecvc\t0", b"setpin1\t1", b"setpin2\t1", b"nopurge\t0", b"replay\t0", b"active\t1",
+)
+NAMES = [line.split(b"\t")[0] for line in GOOD]
+AFTER = len(GOOD) + 1
+# Values of each line that are not good ones.
+WRONG = {
+    b"cid": (b"AA0000000001667", b"AA000000000166750", b"aa00000000016675", b"AA0000000001667G"),
+    b"pin1": (b"0" * 63, b"0" * 65, b"0" * 63 + b"a"),
+    b"pin2": (b"F" * 62, b"F" * 66, b"f" * 64),
+    b"cvc": (b"12", b"1234", b"12A"),
+    b"curve": (b"secp256r1", b"Ed25519", b"secp256k1 "),
+    b"max": (b"0", b"007", b"4294967296", b"10000000000", b"-1"),
+}
+NO_FLAG = (b"2", b"01", b"yes")
+
+
+def sheet(**changed) -> bytes:
+    values = dict(line.split(b"\t") for line in GOOD) | {name.encode(): value for name, value in changed.items()}
+    return b"".join(name + b"\t" + value + b"\n" for name, value in values.items())
+
+
+def joined(lines) -> bytes:
+    return b"".join(line + b"\n" for line in lines)
+
+
+def good_sheets():
+    for curve in (b"secp256k1", b"ed25519"):
+        for active in (b"1", b"0"):
+            yield 0, sheet(curve=curve, active=active)
+            yield 0, sheet(curve=curve, active=active, cid=b"0123456789ABCDEF", pin1=b"0" * 64, pin2=b"F" * 64, cvc=b"000", max=b"4294967295",
+                           reusable=b"0", usecvc=b"1", setpin1=b"0", setpin2=b"0", nopurge=b"1", replay=b"1")
+    # PIN2 is the other's PIN1, and both are the same
+    yield 0, sheet(pin1=b"F" * 64, pin2=b"0" * 64)
+    yield 0, sheet(pin2=b"91B4D142823F7D20" * 4)
+
+
+def bad_lines():
+    for at, line in enumerate(GOOD, 1):
+        name, value = line.split(b"\t")
+        before, after = GOOD[: at - 1], GOOD[at:]
+        for wrong in WRONG.get(name, NO_FLAG):
+            yield at, joined((*before, name + b"\t" + wrong, *after))
+        for other in (name.upper() + b"\t" + value, name + value, name + b" " + value, name + b"\t", line + b"\t", line + b"\r", b" " + line, b""):
+            yield at, joined((*before, other, *after))
+        yield at, joined((*before, *after))  # it is missing
+        yield at + 1, joined((*before, line, line, *after))  # it stands twice
+        yield at, joined(before)  # the sheet ends before it
+        yield at, joined(before) + line  # and without its line feed
+        yield at, joined(before) + line[:2]
+        # it is bad, and so is every line after it
+        yield at, joined((*before, *[b"?"] * (AFTER - at)))
+
+
+def other_bytes():
+    yield 1, b""
+    yield 1, b"\n"
+    yield 1, b"\0"
+    yield 1, b"\n" + sheet()
+    yield 1, b"\xef\xbb\xbf" + sheet()
+    yield 1, sheet().replace(b"\n", b"\r\n")
+    for after in (b"\n", b" ", b"\0", b"x", b"active\t1\n", sheet()):
+        yield AFTER, sheet() + after
+
+
+def long_inputs():
+    """As long as what is read, a byte less, a byte more, and much more; a line that runs out of what is read."""
+    for length in (INPUT - 1, INPUT, INPUT + 1, 2 * INPUT):
+        yield AFTER, sheet().ljust(length, b"\n")
+    for length in (INPUT, INPUT + 1):
+        yield 1, b"c" * length
+        yield 6, joined(GOOD[:5]) + b"max\t".ljust(length, b"9")
+        yield 13, joined(GOOD[:12]) + b"active\t".ljust(length, b"1") + b"\n"
+    yield 5, sheet(curve=b"P-256").ljust(INPUT + 1, b"x")
+    yield AFTER, sheet() * 20
+
+
+def printed(data: bytes) -> str:
+    """What 01 says of an input, whatever its length."""
+    bad, image = personalise(data)
+    if bad:
+        return f"line\t{bad}\n"
+    pin1 = bytes.fromhex(data.split(b"\n")[1].split(b"\t")[1].decode())
+    return settle(image, READ_CARD + pin1, bytes(32), b"").response.hex().upper() + "\n"
+
+
+def expected(bad: int, data: bytes) -> str:
+    line = printed(data)
+    if bad:
+        assert line == f"line\t{bad}\n", (bad, line, data)
+    else:
+        assert line.startswith("0108") and line.endswith("9000\n"), (line, data)
+    return line
+
+
+def main():
+    assert printed(sheet()) == EXAMPLE + "\n"
+    cases = [case for group in (good_sheets, bad_lines, other_bytes, long_inputs) for case in group()]
+    made = {"stdin": "".join(data.hex().upper() + "\n" for _, data in cases), "stdout": "".join(expected(*case) for case in cases)}
+    assert len(made["stdin"]) <= 1 << 18, "the program reads 262,144 bytes"
+    for name, text in made.items():
+        if "--check" not in sys.argv:
+            (PLACE / name).write_text(text)
+        elif (PLACE / name).read_text() != text:
+            sys.exit(f"crates/firstreads/{name} is not what this script writes")
+    print(f"{len(cases)} cases")
+
+
+main()
