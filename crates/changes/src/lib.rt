@@ -1,5 +1,6 @@
 // What becomes of the card: the image of the card after, made from that of the card before.
 use card::Counters;
+use card::Wallet;
 use card::layout;
 use manual::Command;
 use manual::Signing;
@@ -10,12 +11,12 @@ ghost use Rattle.wire.specs.Wire.{Wrote};
 ghost use Rattle.sent.specs.Sent.{viewBy};
 ghost use Rattle.card.specs.declared.Card.{Card};
 ghost use Rattle.card.specs.Image.{decode};
-ghost use Rattle.card.specs.Values.{faced, withUser, withProtected, withCounters, checkedOnce, validatedOnce};
+ghost use Rattle.card.specs.Values.{risen, heldLast, faced, withUser, withProtected, withCounters, withLast, checkedOnce, validatedOnce};
 ghost use Rattle.writing.specs.Holds.{Turned};
 ghost use Rattle.manual.specs.Tags.{UserData, UserProtectedData};
-ghost use Rattle.manual.specs.Wallet.{sign, createdFace, purgedFace, newCodes, signedFace};
+ghost use Rattle.manual.specs.Wallet.{sign, createdFace, purgedFace, newCodes};
 ghost use Rattle.manual.specs.Storage.{storedBlock, storedNumber, storedCounters, storedFace, keptCounter, issuerFace};
-ghost use Rattle.changes.specs.Carried.{keptImage, carriedCard, carriedImage};
+ghost use Rattle.changes.specs.Carried.{keptImage, carriedCard, carriedImage, charged};
 
 // The image as it was, where a command is refused.
 pub fn keep(img: &[u8], next: &mut [u8]) -> usize
@@ -101,27 +102,39 @@ fn validated(img: &[u8], next: &mut [u8])
     writing::anew::counters(next, counters.validated());
 }
 
-// The last signatures again: no change.
+// What a SIGN makes of the wallet: new signatures cost one, however many hashes; the last ones again cost nothing.
+fn charged(w: Wallet, s: Signing, hashes: u32) -> Wallet
+    ensures { λ r. ⌜ r ≡ charged s hashes w ⌝ }
+{
+    let signed = w.sign(hashes);
+    let Signing::New(_) = s else {
+        return w;
+    };
+    signed
+}
+
 fn signed(img: &[u8], p: &[u8], places: &Places, answers: &[u8], next: &mut [u8])
     ensures { λ _. ⌜ Turned (decode (now (img .entry)))
         (faced (sign .next (decode (now (img .entry)) .face) (viewBy (now (p .entry)) (now (places .entry))) (now (answers .entry)))
         (decode (now (img .entry))))
         (now (next .entry)) (now (next .exit)) ⌝ }
 {
-    let Signing::New(n) = request::signing(p, places) else {
+    let s = request::signing(p, places);
+    let array = sent::value(p, places, tag::TRANSACTION_HASH);
+    let hashes = (array.len() / manual::HASH_SIZE % 4294967296) as u32;
+    writing::anew::wallet(next, charged(image::wallet(img), s, hashes));
+    let Signing::New(_) = s else {
         return;
     };
-    signed_anew(img, n / manual::HASH_SIZE, answers, next);
+    signed_anew(img, answers, next);
 }
 
-fn signed_anew(img: &[u8], n: usize, answers: &[u8], next: &mut [u8])
-    ensures { λ _. ⌜ Turned (decode (now (img .entry)))
-        (faced (signedFace (decode (now (img .entry)) .face) n (now (answers .entry))) (decode (now (img .entry))))
-        (now (next .entry)) (now (next .exit)) ⌝ }
+// What only new signatures change, beside the wallet.
+fn signed_anew(img: &[u8], answers: &[u8], next: &mut [u8])
+    ensures { λ _. ⌜ ((c : Card) → Turned c
+        (faced (withLast (heldLast (now (answers .entry))) (withCounters (risen (decode (now (img .entry)) .face .front .counters)) (c .face))) c)
+        (now (next .entry)) (now (next .exit))) ⌝ }
 {
-    let hashes = (n % 4294967296) as u32;
-    let wallet = image::wallet(img);
-    writing::anew::wallet(next, wallet.sign(hashes));
     let counters = image::counters(img);
     writing::anew::counters(next, counters.signed());
     writing::anew::last(next, answers);

@@ -1,20 +1,7 @@
-use Rattle.writing.proofs.Renewed.{anew-wallet, anew-counters, anew-last}
-use Rattle.changes.proofs.Laws.{kept-once}
+use Rattle.writing.proofs.Renewed.{anew-counters, anew-last}
 use borrow.Author.Needs.{needs}
 use Rattle.changes.proofs.signed_anew.Statement.{statement}
 use Rattle.changes.proofs.signed_anew.Tie as tie
-
-cast-hashes : tie.Need-cast-hashes
-cast-hashes c = search needs
-
-wallet-requires : tie.Need-wallet-requires
-wallet-requires c κs = tt
-
-sign-requires : tie.Need-sign-requires
-sign-requires c κs = tt
-
-wallet-requires-2 : tie.Need-wallet-requires-2
-wallet-requires-2 c κs = tt
 
 counters-requires : tie.Need-counters-requires
 counters-requires c κs = tt
@@ -37,21 +24,12 @@ returns c =
     let c2 = c1 .before .before .before .before in
     let c3 = c2 .before in
     let c4 = c3 .before .before in
-    let c5 = c4 .before .before .before in
-    let c6 = c5 .before in
-    let c7 = c6 .before .before in
-    λ rest h.
-    anew-last _ (c1 .last .ensures) (anew-counters _ (rw (c3 .signed .ensures, c4 .counters .ensures) at (c2 .counters2 .ensures))
-    (anew-wallet _ (rw (c6 .sign .ensures, c7 .wallet .ensures, kept-once) at (c5 .wallet2 .ensures)) h))
+    λ t rest h. anew-last _ (c1 .last .ensures) (anew-counters _ (rw (c3 .signed .ensures, c4 .counters .ensures) at (c2 .counters2 .ensures)) h)
 
 pub signed-anew-spec : {M : Type 1} → statement M
 signed-anew-spec =
     tie.close
     (tie.spec
-    cast-hashes
-    wallet-requires
-    sign-requires
-    wallet-requires-2
     counters-requires
     signed-requires
     counters-requires-2
