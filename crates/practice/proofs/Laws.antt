@@ -10,6 +10,8 @@ use lib.Dec.{leb}
 use borrow.Author.Tests.{leb-true, eq-eqb}
 use Rattle.wire.specs.Wire.{part, Wrote, Wrotes, joined, be2, Bytes}
 use Rattle.wire.proofs.Laws.{runs, all-run, then, front, both-true, part-plain}
+use Rattle.wire.specs.declared.Check.{Check}
+use Rattle.wire.specs.declared.Check.the-variants.{Fine, Failed}
 use Rattle.fields.specs.Fields.{View, viewOf, each, written, wellFormed}
 use Rattle.sent.specs.Sent.{places, viewBy, Filled}
 use Rattle.sent.proofs.Laws.{same-view, fill-form}
@@ -34,7 +36,7 @@ use Rattle.gate.proofs.Laws.{at-head, past-head, heads, command-of, fields-hold
 use Rattle.manual.specs.declared.Outcome.{Outcome}
 use Rattle.changes.specs.Carried.{carriedCard, carriedImage, keptImage}
 use Rattle.changes.proofs.Laws.{carried-shape}
-use Rattle.practice.specs.Carried.{Says, doneIn, answeredIn}
+use Rattle.practice.specs.Carried.{Says, doneIn, madeBy, confirmedIn, answeredIn}
 
 -- THE NEXT IMAGE. An image kept is the image of its card
 pub kept : (m nxt : List ℕ) {nxt′ : List ℕ} {r : ℕ} → length m ≡ imageSize → Bytes m → Wrote nxt 0 (keptImage m) nxt′ r → imageRoom ≤ length nxt
@@ -68,6 +70,16 @@ module _ (k : Command) (m : List ℕ) (v : View) (a nxt : List ℕ) (l : length 
       ap (λ x. decode (part x 0 imageSize)) e
       ∙ ap decode (part-plain (encode next ++ rest) 0 imageSize z ∙ take-at (encode next) rest imageSize n)
       ∙ decode-encode next (carried-shape k m l v a)
+
+-- the change that goes with check 13: the command's own, or none
+module _ (k : Command) (m : List ℕ) (v : View) (a nxt : List ℕ) (l : length m ≡ imageSize) {j : Command} {s : Check} (e : j ≡ madeBy k s) where
+  pub made-own : {nxt′ : List ℕ} {r : ℕ} → s ≡ Fine → Wrote nxt 0 (carriedImage j m v a) nxt′ r → imageRoom ≤ length nxt
+      → nxt′ ≡ encode (carriedCard k (decode m) v a) ++ drop imageSize nxt
+  made-own f w h = changed j m v a nxt l w h ∙ ap (λ i. encode (carriedCard i (decode m) v a) ++ drop imageSize nxt) (e ∙ ap (madeBy k) f)
+
+  pub made-none : {nxt′ : List ℕ} {r : ℕ} → s ≡ Failed → Wrote nxt 0 (carriedImage j m v a) nxt′ r → imageRoom ≤ length nxt
+      → nxt′ ≡ encode (decode m) ++ drop imageSize nxt
+  made-none f w h = changed j m v a nxt l w h ∙ ap (λ i. encode (carriedCard i (decode m) v a) ++ drop imageSize nxt) (e ∙ ap (madeBy k) f)
 
 -- A RESPONSE: its fields and its word
 pub responded : (k : Command) (m : List ℕ) (w : ℕ) (v : View) (e a : List ℕ) {d d′ : List ℕ} {r : ℕ} {d″ : List ℕ} {r″ : ℕ}
@@ -178,7 +190,7 @@ module _ (c : Card) (q d a out nxt : List ℕ) where
 
   pub settled-pass : (k : Command) {j : Command} → k ≡ command q → judged codes (c .face) q ≡ Pass j
       → settledOf c q d a out nxt ≡ answeredIn k c (sentIn q) d a out nxt
-  unfolding settledOf said answered answeredIn
+  unfolding settledOf said answered answeredIn confirmedIn
   settled-pass k {j} ek e =
       let ej = command-of (wellFormed (payload q)) (sentIn q) codes (c .face) q e in
       rw e (by-ways j ej (shaped (row j .questions (c .face) (sentIn q) d) a) (row j .confirmed a)

@@ -9,7 +9,7 @@ ghost use mathlib.Core.Path.{_≡_};
 ghost use Prim.Native.Nat.{_≤_};
 ghost use lib.ListN.{length};
 ghost use lib.Dec.{eqb, leb};
-ghost use Rattle.wire.specs.Wire.{verdict, Wrotes};
+ghost use Rattle.wire.specs.Wire.{verdict, be2, Wrotes};
 ghost use Rattle.sent.specs.Sent.{viewBy};
 ghost use Rattle.card.specs.Layout.{imageSize, imageRoom};
 ghost use Rattle.card.specs.Image.{decode};
@@ -17,10 +17,10 @@ ghost use Rattle.personalise.specs.Personalise.{personalised};
 ghost use Rattle.manual.specs.Words.{questionsRoom, responseRoom, drawSize};
 ghost use Rattle.manual.specs.Row.{eachAsked};
 ghost use Rattle.manual.specs.Commands.{row};
-ghost use Rattle.manual.specs.Settle.{holding, wordOf, refused, responseOf, outcome, settledBy, lent, settledOf, roomy, settled, settleCall};
+ghost use Rattle.manual.specs.Settle.{holding, wordOf, refused, responseOf, outcome, settledBy, over, lent, settledOf, roomy, settled, settleCall};
 ghost use Rattle.manual.specs.Settle.{posedBy, askedFrom, askedFor, askCall};
 ghost use Rattle.gate.specs.Gate.{laterOf};
-ghost use Rattle.practice.specs.Carried.{Says, doneIn, answeredIn};
+ghost use Rattle.practice.specs.Carried.{Says, madeBy, confirmedIn, answeredIn};
 
 // Numbers 1 to 4: nothing is written.
 fn only(number: u8) -> Outcome
@@ -76,15 +76,23 @@ fn word_of(v: Verdict) -> u16
     }
 }
 
+// A status word alone.
+fn word_alone(word: u16, response: &mut [u8]) -> Outcome
+    requires { ⌜ responseRoom ≤ length (now response) ⌝ }
+    ensures { λ r. ⌜ (r ≡ outcome 0 word 2) × (now (response .exit) ≡ over (be2 word) (now (response .entry))) ⌝ }
+{
+    wire::put16(response, 0, word);
+    told(word, 2)
+}
+
 // A status word alone; the next image is the old one.
 fn refuse(img: &[u8], word: u16, response: &mut [u8], next: &mut [u8]) -> Outcome
     requires { ⌜ (responseRoom ≤ length (now response)) × (imageRoom ≤ length (now next)) × (length (now img) ≡ imageSize) ⌝ }
     ensures { λ r. ⌜ settledBy r (now (response .exit)) (now (next .exit))
         ≡ lent (refused word (decode (now (img .entry)) .face)) (decode (now (img .entry))) (now (response .entry)) (now (next .entry)) ⌝ }
 {
-    wire::put16(response, 0, word);
     changes::keep(img, next);
-    told(word, 2)
+    word_alone(word, response)
 }
 
 // The fields of the card after, and the status word.
@@ -108,6 +116,17 @@ fn respond(
     end as u32
 }
 
+// The change that goes with check 13: the command's own where it is confirmed, and READ_CARD's, which is none, where it is not.
+fn made(cmd: Command, confirmed: Check) -> Command
+    ensures { λ r. ⌜ r ≡ madeBy cmd confirmed ⌝ }
+{
+    let Check::Fine = confirmed else {
+        return Command::ReadCard;
+    };
+    cmd
+}
+
+// Check 13, then the command.
 fn carry_out(
     cmd: Command,
     img: &[u8],
@@ -120,10 +139,14 @@ fn carry_out(
 ) -> Outcome
     requires { ⌜ (responseRoom ≤ length (now response)) × (imageRoom ≤ length (now next)) × (length (now img) ≡ imageSize) ⌝ }
     ensures { λ r. ⌜ settledBy r (now (response .exit)) (now (next .exit))
-        ≡ doneIn cmd (decode (now (img .entry))) (viewBy (now (p .entry)) (now (places .entry))) (now (draw .entry)) (now (answers .entry))
+        ≡ confirmedIn cmd (decode (now (img .entry))) (viewBy (now (p .entry)) (now (places .entry))) (now (draw .entry)) (now (answers .entry))
         (now (response .entry)) (now (next .entry)) ⌝ }
 {
-    changes::change(cmd, img, p, places, answers, next);
+    let confirmed = answers::confirmation(cmd, answers);
+    changes::change(made(cmd, confirmed), img, p, places, answers, next);
+    let Check::Fine = confirmed else {
+        return word_alone(Outcome::SW_ERROR_PROCESSING_COMMAND, response);
+    };
     let word = tells::word(cmd, img, p, places);
     let after = wire::part(next, 0, layout::IMAGE_SIZE);
     let length = respond(cmd, after, word, p, places, draw, answers, response);
@@ -148,9 +171,6 @@ fn answer(
 {
     let Check::Fine = answers::shape(cmd, img, p, places, answers) else {
         return only(Outcome::NO_ANSWERS);
-    };
-    let Check::Fine = answers::confirmation(cmd, answers) else {
-        return refuse(img, Outcome::SW_ERROR_PROCESSING_COMMAND, response, next);
     };
     carry_out(cmd, img, p, places, draw, answers, response, next)
 }
