@@ -299,8 +299,8 @@ pub extern "C" fn practice_ask(
     draw: &[u8],
     questions: &mut [u8],
 ) -> Outcome
-    ensures { λ o. ⌜ posedBy o (now (questions .exit))
-        ≡ askedFor (holding (now (image .entry))) (askCall (now (request .entry)) (now (draw .entry)) (now (questions .entry))) ⌝ }
+    ensures { λ o. ⌜ (posedBy o (now (questions .exit))
+        ≡ askedFor (holding (now (image .entry))) (askCall (now (request .entry)) (now (draw .entry)) (now (questions .entry)))) ⌝ }
 {
     ask(image, request, draw, questions)
 }
@@ -314,9 +314,9 @@ pub extern "C" fn practice_settle(
     response: &mut [u8],
     next: &mut [u8],
 ) -> Outcome
-    ensures { λ o. ⌜ settledBy o (now (response .exit)) (now (next .exit))
+    ensures { λ o. ⌜ (settledBy o (now (response .exit)) (now (next .exit))
         ≡ settled (holding (now (image .entry)))
-        (settleCall (now (request .entry)) (now (draw .entry)) (now (answers .entry)) (now (response .entry)) (now (next .entry))) ⌝ }
+        (settleCall (now (request .entry)) (now (draw .entry)) (now (answers .entry)) (now (response .entry)) (now (next .entry)))) ⌝ }
 {
     settle(image, request, draw, answers, response, next)
 }
