@@ -2,7 +2,7 @@
 """The vectors of docs/KEYS.md, made from its text with python-ecdsa, and ed25519 once more with python-cryptography.
 
 Run: /usr/bin/python3 tests/keys.py (Debian's python3-ecdsa and python3-cryptography). It prints the vectors as they stand in
-docs/KEYS.md. It shares nothing with host/provider.c, which it is there to measure.
+docs/KEYS.md. It shares nothing with host/provider/provider.c, which it is there to measure.
 """
 
 import hashlib

@@ -3,8 +3,8 @@
 #include <string.h>
 #include <sys/random.h>
 
-#include "../practice.h"
-#include "../provider.h"
+#include "practice.h"
+#include "provider.h"
 
 /* One tap. The image is the card, and all that is kept of it. Returns the response's length; 0 where there was no tap. */
 static size_t tap(uint8_t *image, const uint8_t *request, size_t request_len, uint8_t response[PRACTICE_ROOM])

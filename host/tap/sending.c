@@ -1,4 +1,4 @@
-/* Each request of a feed: made, sent to the card, kept, shown, written down. */
+/* Each request of a feed: made, sent to the card, kept, written down. */
 #define _GNU_SOURCE
 #include "sending.h"
 
@@ -6,17 +6,14 @@
 #include <stdio.h>
 #include <stdlib.h>
 #include <string.h>
-#include <sys/random.h>
 #include <unistd.h>
 
-#include "exchange.h"
 #include "feed.h"
 #include "hex.h"
 #include "image.h"
-#include "requests.h"
 #include "sheet.h"
+#include "showing.h"
 #include "store.h"
-#include "words.h"
 
 /* A card that is tapped: in its file, or in memory alone where path is NULL. */
 typedef struct {
@@ -27,45 +24,23 @@ typedef struct {
     uint32_t number; /* of the tap under way */
 } desk;
 
-typedef struct {
-    request sent;
-    uint8_t draw[PRACTICE_DRAW];
-    exchange got;
-} tap;
-
 /* Where lines go: a stream, which is the end of a file where file is not NULL. Nowhere where both are. */
 typedef struct {
     const char *file;
     FILE *stream; /* of a file: opened for its first line */
 } recorder;
 
-static const char *seed_of(const settings *set)
-{
-    return set->seed ? set->seed : PRACTICE_SEED;
-}
-
-/* A draw by chance, or the seed's own for this tap, so that a lesson can be made again. */
-static complaint make_draw(const desk *d, uint8_t draw[PRACTICE_DRAW])
-{
-    if (!d->set->seed)
-        return getrandom(draw, PRACTICE_DRAW, 0) == PRACTICE_DRAW ? NULL : complain("no random bytes are to be had");
-    provider_result made = provider_draw((const uint8_t *)d->set->seed, strlen(d->set->seed), d->number, draw);
-    return made == PROVIDER_DONE ? NULL : complain("no draw could be made");
-}
-
 static complaint make_request(const desk *d, size_t count, char *const *words, tap *t)
 {
-    const char *seed = seed_of(d->set);
-    request_source from = {d->image, t->draw, (const uint8_t *)seed, strlen(seed), d->set->pin1, d->set->pin2, d->set->cvc};
-    complaint wrong = make_draw(d, t->draw);
+    request_source from = {d->image, t->draw, d->set->keys, d->set->pin1, d->set->pin2, d->set->cvc};
+    complaint wrong = seed_draw(d->set->keys, d->number, t->draw);
+    memcpy(t->before, d->image, d->image_len);
     return wrong ? wrong : request_make(&from, count, words, &t->sent);
 }
 
 static complaint tap_image(const desk *d, tap *t)
 {
-    const char *seed = seed_of(d->set);
-    complaint wrong = exchange_tap(d->image, d->image_len, t->sent.bytes, t->sent.length, t->draw, (const uint8_t *)seed,
-                                   strlen(seed), &t->got);
+    complaint wrong = exchange_tap(d->image, d->image_len, t->sent.bytes, t->sent.length, t->draw, d->set->keys, &t->got);
     return wrong && d->path ? complain("%s: %s", d->path, wrong) : wrong;
 }
 
@@ -109,33 +84,6 @@ static complaint write_line(const recorder *to, const tap *t)
 }
 
 /* ---- one tap ---- */
-
-static void show_hex(char mark, const uint8_t *bytes, size_t length)
-{
-    printf("%c ", mark);
-    hex_print(stdout, bytes, length);
-    putchar('\n');
-}
-
-static void show_words(const tap *t)
-{
-    puts(words_command(t->sent.bytes, t->sent.length));
-    show_hex('>', t->sent.bytes, t->sent.length);
-    show_hex('<', t->got.response, t->got.response_len);
-    words_response(stdout, t->sent.bytes, t->sent.length, t->got.response, t->got.response_len);
-}
-
-static void show(const settings *set, int first, const tap *t)
-{
-    if (set->hex_only) {
-        hex_print(stdout, t->got.response, t->got.response_len);
-        putchar('\n');
-    } else {
-        fputs(first ? "" : "\n", stdout);
-        show_words(t);
-    }
-    fflush(stdout);
-}
 
 static complaint read_card(desk *d, const store *card)
 {
@@ -213,7 +161,7 @@ static complaint tap_all(desk *d, feed *from, recorder *to)
         d->number++;
         wrong = d->path ? tap_file(d, count, words, to, &t) : tap_once(d, NULL, count, words, to, &t);
         if (!wrong)
-            show(d->set, first, &t);
+            show_tap(d->set, first, &t);
     }
     return at_line(from, wrong);
 }

@@ -11,13 +11,11 @@
 #include <stdio.h>
 #include <stdlib.h>
 #include <string.h>
-#include <sys/random.h>
 #include <time.h>
 #include <unistd.h>
 
 #include "exchange.h"
 #include "image.h"
-#include "sending.h"
 #include "store.h"
 
 #define PORT 35963
@@ -36,32 +34,23 @@ static const uint8_t no_tap[] = {0x6F, 0x00};
 
 typedef struct {
     const char *path;
-    const char *seed; /* NULL: the practice seed's keys, and draws by chance */
+    seed keys;
     uint32_t taps;
 } held_card;
 
 /* ---- one request ---- */
 
-static complaint make_draw(const held_card *card, uint8_t draw[PRACTICE_DRAW])
-{
-    if (!card->seed)
-        return getrandom(draw, PRACTICE_DRAW, 0) == PRACTICE_DRAW ? NULL : complain("no random bytes are to be had");
-    provider_result made = provider_draw((const uint8_t *)card->seed, strlen(card->seed), card->taps, draw);
-    return made == PROVIDER_DONE ? NULL : complain("no draw could be made");
-}
-
 static complaint tap_stored(const held_card *card, const store *file, const uint8_t *request, size_t length, exchange *tap)
 {
     uint8_t image[PRACTICE_IMAGE_ROOM], draw[PRACTICE_DRAW];
-    const char *seed = card->seed ? card->seed : PRACTICE_SEED;
     size_t image_len;
     complaint wrong = store_read(file, image, sizeof image, &image_len);
     if (!wrong)
         wrong = image_is_card(image, image_len);
     if (!wrong)
-        wrong = make_draw(card, draw);
+        wrong = seed_draw(card->keys, card->taps, draw);
     if (!wrong)
-        wrong = exchange_tap(image, image_len, request, length, draw, (const uint8_t *)seed, strlen(seed), tap);
+        wrong = exchange_tap(image, image_len, request, length, draw, card->keys, tap);
     if (!wrong && memcmp(tap->next, image, image_len) != 0)
         wrong = store_replace(file, tap->next, image_len);
     return wrong;
@@ -212,17 +201,17 @@ int main(int count, char **arguments)
 {
     static const struct option options[] = {
         {"seed", required_argument, NULL, 's'}, {"port", required_argument, NULL, 'p'}, {"help", no_argument, NULL, 'h'}, {0}};
-    held_card card = {0};
+    held_card card = {.keys = seed_of(NULL)};
     uint16_t port = PORT;
     opterr = 0;
     for (int option; (option = getopt_long(count, arguments, "", options, NULL)) != -1;)
         switch (option) {
-        case 's': card.seed = optarg; break;
+        case 's': card.keys = seed_of(optarg); break;
         case 'p': port = port_of(optarg); break;
         case 'h': return help();
         default: return usage();
         }
-    if (optind != count - 1 || port == 0 || (card.seed && !*card.seed))
+    if (optind != count - 1 || port == 0 || card.keys.length == 0)
         return usage();
     card.path = arguments[optind];
     complaint wrong = run(&card, port);

@@ -30,7 +30,7 @@ static void help(void)
     request_help(stdout);
     puts("\n"
          "  --seed TEXT   keys and draws from this seed: the same taps are the same to the byte. Without it the keys come from\n"
-         "                the seed '" PRACTICE_SEED "' and the draws from chance\n"
+         "                the seed '" SEED_PRACTICE "' and the draws from chance\n"
          "  --pin1 TEXT, --pin2 TEXT, --cvc TEXT   send this code instead of the card's own; a PIN is hashed by SHA-256\n"
          "  --hex         print each response in hex alone");
 }
@@ -86,11 +86,11 @@ static complaint show_card(const char *path)
     return wrong;
 }
 
-static complaint show_key(const char *name, const char *seed, const uint8_t *image, provider_owner owner)
+static complaint show_key(const char *name, seed keys, const uint8_t *image, provider_owner owner)
 {
     uint8_t key[PROVIDER_KEY];
     size_t length;
-    if (provider_public_key((const uint8_t *)seed, strlen(seed), image_get(image, IMAGE_CID).bytes, owner, 0, 1, key, &length) !=
+    if (provider_public_key(keys.bytes, keys.length, image_get(image, IMAGE_CID).bytes, owner, 0, 1, key, &length) !=
         PROVIDER_DONE)
         return complain("the provider made no key");
     printf("%-26s", name);
@@ -101,11 +101,10 @@ static complaint show_key(const char *name, const char *seed, const uint8_t *ima
 static complaint show_keys(const settings *set, const char *path)
 {
     static uint8_t image[PRACTICE_IMAGE_ROOM];
-    const char *seed = set->seed ? set->seed : PRACTICE_SEED;
     complaint wrong = read_card(path, image);
     if (!wrong)
-        wrong = show_key("Card_PublicKey", seed, image, PROVIDER_CARD);
-    return wrong ? wrong : show_key("Issuer_Data_PublicKey", seed, image, PROVIDER_ISSUER);
+        wrong = show_key("Card_PublicKey", set->keys, image, PROVIDER_CARD);
+    return wrong ? wrong : show_key("Issuer_Data_PublicKey", set->keys, image, PROVIDER_ISSUER);
 }
 
 /* Options stand between the command and its first operand, so that a text may begin with a dash. */
@@ -117,7 +116,7 @@ static int read_options(int count, char **arguments, settings *set)
     opterr = 0;
     for (int option; (option = getopt_long(count, arguments, "+", options, NULL)) != -1;)
         switch (option) {
-        case 's': set->seed = optarg; break;
+        case 's': set->keys = seed_of(optarg); break;
         case '1': set->pin1 = optarg; break;
         case '2': set->pin2 = optarg; break;
         case 'c': set->cvc = optarg; break;
@@ -145,7 +144,7 @@ static int run(const settings *set, const char *command, size_t count, char **op
 
 int main(int count, char **arguments)
 {
-    settings set = {0};
+    settings set = {.keys = seed_of(NULL)};
     if (count < 2)
         return usage("no command");
     if (strcmp(arguments[1], "help") == 0 || strcmp(arguments[1], "--help") == 0) {
@@ -154,7 +153,7 @@ int main(int count, char **arguments)
     }
     if (!read_options(count - 1, arguments + 1, &set))
         return usage("an option is unknown or has no value");
-    if (set.seed && !*set.seed)
+    if (set.keys.length == 0)
         return usage("the seed has no bytes");
     return run(&set, arguments[1], (size_t)(count - 1 - optind), arguments + 1 + optind);
 }

@@ -5,15 +5,13 @@
 #include <stddef.h>
 
 #include "complaint.h"
+#include "seed.h"
 
 typedef struct {
-    const char *seed; /* NULL: the practice seed's keys, and draws by chance */
+    seed keys;
     const char *pin1, *pin2, *cvc;
     int hex_only; /* print the response alone */
 } settings;
-
-/* The seed that keys come from where none is given. */
-#define PRACTICE_SEED "practice"
 
 /* A recording's limits (Ask 4 of the paper on changes). */
 #define RECORDING_LINE 8192

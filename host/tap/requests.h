@@ -7,6 +7,7 @@
 #include <stdio.h>
 
 #include "complaint.h"
+#include "seed.h"
 
 /* Above the card's own limit of 1,024, so that a lesson may go past it. */
 #define REQUEST_ROOM 4096
@@ -20,8 +21,7 @@ typedef struct {
 typedef struct {
     const uint8_t *image;
     const uint8_t *draw; /* a challenge that is not given is the SHA-256 of this: one draw, one tap */
-    const uint8_t *seed; /* of the issuer's key, for notes */
-    size_t seed_len;
+    seed keys; /* the issuer's among them, for notes */
     const char *pin1, *pin2, *cvc; /* sent instead of the card's own where not NULL; a PIN is hashed first */
 } request_source;
 

@@ -70,7 +70,7 @@ complaint image_is_card(const uint8_t *image, size_t length)
     static uint8_t questions[PRACTICE_ROOM];
     static const uint8_t request[1], draw[PRACTICE_DRAW];
     if (offset_of(IMAGE_VALUES) != practice_image_length())
-        return complain("the library's image has %u bytes, host/image.c knows one of %zu", practice_image_length(),
+        return complain("the library's image has %u bytes, host/file/image.c knows one of %zu", practice_image_length(),
                         offset_of(IMAGE_VALUES));
     practice_result asked = practice_ask(image, length, request, sizeof request, draw, sizeof draw, questions, sizeof questions);
     if (asked.number == 1)

@@ -248,7 +248,7 @@ static complaint own_note(const order *o)
     memcpy(message, cid, PROVIDER_CID);
     memcpy(message + PROVIDER_CID, text, length);
     memcpy(message + PROVIDER_CID + length, counter, counter_len);
-    if (provider_issue(o->from->seed, o->from->seed_len, cid, message, PROVIDER_CID + length + counter_len, signature) != PROVIDER_DONE)
+    if (provider_issue(o->from->keys.bytes, o->from->keys.length, cid, message, PROVIDER_CID + length + counter_len, signature) != PROVIDER_DONE)
         return complain("the issuer could not sign");
     put_field(o->out, TAG_ISSUER_DATA, (const uint8_t *)text, length);
     put_field(o->out, TAG_ISSUER_DATA_SIGNATURE, signature, sizeof signature);

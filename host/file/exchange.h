@@ -8,6 +8,7 @@
 #include "complaint.h"
 #include "practice.h"
 #include "provider.h"
+#include "seed.h"
 
 typedef struct {
     uint8_t answers[PROVIDER_ROOM];
@@ -22,6 +23,6 @@ typedef struct {
  * A complaint means that there was no tap: the image is no card, or the provider could not answer. A refusal by a status word is a
  * response like any other. */
 complaint exchange_tap(const uint8_t *image, size_t image_len, const uint8_t *request, size_t request_len,
-                       const uint8_t draw[PRACTICE_DRAW], const uint8_t *seed, size_t seed_len, exchange *tap);
+                       const uint8_t draw[PRACTICE_DRAW], seed keys, exchange *tap);
 
 #endif
