@@ -16,6 +16,10 @@
 #include <stddef.h>
 #include <stdint.h>
 
+#ifdef __cplusplus
+extern "C" {
+#endif
+
 /* What a call returns.
  *
  *   number  0  done: word is the status word, length the number of bytes written
@@ -73,5 +77,9 @@ uint32_t practice_personalise(const uint8_t *sheet, size_t sheet_len, uint8_t *i
 
 /* How many bytes an image has. */
 uint32_t practice_image_length(void);
+
+#ifdef __cplusplus
+}
+#endif
 
 #endif
