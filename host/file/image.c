@@ -73,7 +73,7 @@ complaint image_is_card(const uint8_t *image, size_t length)
         return complain("the library's image has %u bytes, host/file/image.c knows one of %zu", practice_image_length(),
                         offset_of(IMAGE_VALUES));
     practice_result asked = practice_ask(image, length, request, sizeof request, draw, sizeof draw, questions, sizeof questions);
-    if (asked.number == 1)
+    if (asked.number == PRACTICE_NO_CARD)
         return complain("is no card (%zu bytes; an image has %u)", length, practice_image_length());
     return NULL;
 }
