@@ -18,10 +18,10 @@ static complaint wallet_is_of(seed keys, const uint8_t *image, const uint8_t *qu
     size_t length;
     if (questions_len == 0 || (questions[0] != 2 && questions[0] != 3))
         return NULL;
-    image_value held = image_get(image, IMAGE_WALLET_PUBLIC_KEY);
-    provider_result made = provider_public_key(keys.bytes, keys.length, image_get(image, IMAGE_CID).bytes, PROVIDER_WALLET,
-                                               (uint16_t)image_number(image, IMAGE_WALLET_NUMBER),
-                                               (uint8_t)image_number(image, IMAGE_CURVE), key, &length);
+    image_value held = image_get(image, PRACTICE_VIEW_WALLET_PUBLIC_KEY);
+    provider_result made = provider_public_key(keys.bytes, keys.length, image_get(image, PRACTICE_VIEW_CID).bytes, PROVIDER_WALLET,
+                                               (uint16_t)practice_view_number(image, PRACTICE_VIEW_WALLET_NUMBER),
+                                               (uint8_t)practice_view_number(image, PRACTICE_VIEW_CURVE), key, &length);
     if (made == PROVIDER_DONE && length == held.length && memcmp(key, held.bytes, length) == 0)
         return NULL;
     return complain("its wallet was made under another seed");
@@ -38,7 +38,7 @@ complaint exchange_tap(const uint8_t *image, size_t image_len, const uint8_t *re
     complaint wrong = wallet_is_of(keys, image, questions, asked.length);
     if (wrong)
         return wrong;
-    provider_result answered = provider_answer(keys.bytes, keys.length, image_get(image, IMAGE_CID).bytes, questions, asked.length,
+    provider_result answered = provider_answer(keys.bytes, keys.length, image_get(image, PRACTICE_VIEW_CID).bytes, questions, asked.length,
                                                tap->answers, sizeof tap->answers, &tap->answers_len);
     if (answered != PROVIDER_DONE)
         return complain("the provider could not answer (%d)", answered);

@@ -73,7 +73,7 @@ static void put_field(payload *out, uint8_t tag, const uint8_t *value, size_t le
     out->length += header + length;
 }
 
-static void put_image_value(payload *out, uint8_t tag, const uint8_t *image, image_name name)
+static void put_image_value(payload *out, uint8_t tag, const uint8_t *image, practice_view_name name)
 {
     image_value value = image_get(image, name);
     put_field(out, tag, value.bytes, value.length);
@@ -89,7 +89,7 @@ static complaint put_pin(payload *out, uint8_t tag, const char *text)
 }
 
 /* The code that the user gave, or the card's own. */
-static complaint put_code(const request_source *from, payload *out, uint8_t tag, const char *given, image_name own)
+static complaint put_code(const request_source *from, payload *out, uint8_t tag, const char *given, practice_view_name own)
 {
     if (given)
         return put_pin(out, tag, given);
@@ -99,15 +99,15 @@ static complaint put_code(const request_source *from, payload *out, uint8_t tag,
 
 static complaint put_codes(const request_source *from, int codes, payload *out)
 {
-    complaint wrong = put_code(from, out, TAG_PIN1, from->pin1, IMAGE_PIN1);
+    complaint wrong = put_code(from, out, TAG_PIN1, from->pin1, PRACTICE_VIEW_PIN1);
     if (codes & CID)
-        put_image_value(out, TAG_CID, from->image, IMAGE_CID);
+        put_image_value(out, TAG_CID, from->image, PRACTICE_VIEW_CID);
     if (!wrong && codes & PIN2)
-        wrong = put_code(from, out, TAG_PIN2, from->pin2, IMAGE_PIN2);
+        wrong = put_code(from, out, TAG_PIN2, from->pin2, PRACTICE_VIEW_PIN2);
     if (codes & CVC && from->cvc)
         put_field(out, TAG_CVC, (const uint8_t *)from->cvc, strlen(from->cvc));
-    else if (codes & CVC && image_number(from->image, IMAGE_CVC_USED))
-        put_image_value(out, TAG_CVC, from->image, IMAGE_CVC);
+    else if (codes & CVC && practice_view_number(from->image, PRACTICE_VIEW_CVC_USED))
+        put_image_value(out, TAG_CVC, from->image, PRACTICE_VIEW_CVC);
     return wrong;
 }
 
@@ -224,9 +224,9 @@ static complaint own_protected(const order *o)
 static complaint note_counter(const order *o, uint8_t counter[4], size_t *length)
 {
     char next[16];
-    uint32_t stored = image_number(o->from->image, IMAGE_ISSUER_DATA_COUNTER);
+    uint32_t stored = practice_view_number(o->from->image, PRACTICE_VIEW_ISSUER_DATA_COUNTER);
     *length = 0;
-    if (!image_number(o->from->image, IMAGE_REPLAY_PROTECTION))
+    if (!practice_view_number(o->from->image, PRACTICE_VIEW_REPLAY_PROTECTION))
         return o->count == 2 ? complain("this card has no replay protection, so a note has no counter") : NULL;
     if (o->count < 2 && stored == TOP_32)
         return complain("the card's counter is at its top: it takes no more notes");
@@ -241,7 +241,7 @@ static complaint own_note(const order *o)
     const char *text = o->operand[0];
     uint8_t message[PROVIDER_CID + REQUEST_ROOM + 4], signature[PROVIDER_SIGNATURE], counter[4];
     size_t length = strlen(text), counter_len;
-    const uint8_t *cid = image_get(o->from->image, IMAGE_CID).bytes;
+    const uint8_t *cid = image_get(o->from->image, PRACTICE_VIEW_CID).bytes;
     complaint wrong = note_counter(o, counter, &counter_len);
     if (wrong || length > REQUEST_ROOM)
         return wrong ? wrong : complain("the note is too long");
