@@ -39,7 +39,7 @@ static const struct {
 
 image_value image_get(const uint8_t *image, practice_view_name name)
 {
-    practice_view_value value = practice_view(image, name);
+    practice_bytes value = practice_view(image, name);
     return (image_value){rows[name].name, rows[name].form, value.bytes, value.length};
 }
 

@@ -54,17 +54,17 @@ static uint32_t number_of(const uint8_t *bytes, uint32_t length)
     return number;
 }
 
-practice_view_value practice_view(const uint8_t *image, practice_view_name name)
+practice_bytes practice_view(const uint8_t *image, practice_view_name name)
 {
     const row *value = &rows[name];
     const uint8_t *at = image + place_of(name);
     uint32_t used = value->prefix ? number_of(at, value->prefix) * value->unit : value->room;
-    return (practice_view_value){at + value->prefix, used < value->room ? used : value->room};
+    return (practice_bytes){at + value->prefix, used < value->room ? used : value->room};
 }
 
 uint32_t practice_view_number(const uint8_t *image, practice_view_name name)
 {
-    practice_view_value value = practice_view(image, name);
+    practice_bytes value = practice_view(image, name);
     return number_of(value.bytes, value.length);
 }
 

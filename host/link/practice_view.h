@@ -48,11 +48,12 @@ typedef enum {
 } practice_view_name;
 
 typedef struct {
-    const uint8_t *bytes; /* in the image itself */
-    uint32_t length;      /* as many as the card holds: of Issuer_Data that of the note, not the room for one */
-} practice_view_value;
+    const uint8_t *bytes;
+    uint32_t length;
+} practice_bytes;
 
-practice_view_value practice_view(const uint8_t *image, practice_view_name name);
+/* The value where it stands in the image, as long as the card holds it: of Issuer_Data the note, not the room for one. */
+practice_bytes practice_view(const uint8_t *image, practice_view_name name);
 
 /* The value as a number. Of one with more than four bytes it means nothing. */
 uint32_t practice_view_number(const uint8_t *image, practice_view_name name);

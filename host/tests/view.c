@@ -12,7 +12,7 @@ int main(void)
     printf("%u %u\n", practice_view_length(), practice_image_length());
     while (fread(image, 1, practice_view_length(), stdin) == practice_view_length())
         for (int name = 0; name < PRACTICE_VIEW_VALUES; name++) {
-            practice_view_value value = practice_view(image, (practice_view_name)name);
+            practice_bytes value = practice_view(image, (practice_view_name)name);
             printf("%d %u ", name, practice_view_number(image, (practice_view_name)name));
             hex_print(stdout, value.bytes, value.length);
             putchar('\n');
