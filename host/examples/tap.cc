@@ -8,6 +8,8 @@
 #include <vector>
 
 #include "practice.h"
+#include "practice_request.h"
+#include "practice_view.h"
 #include "provider.h"
 
 using bytes = std::vector<std::uint8_t>;
@@ -26,51 +28,48 @@ public:
     bytes tap(const bytes &request)
     {
         bytes draw(PRACTICE_DRAW), questions(PRACTICE_ROOM), answers(PROVIDER_ROOM), response(PRACTICE_ROOM), next(PRACTICE_IMAGE_ROOM);
+        const std::uint8_t *cid = practice_view(image.data(), PRACTICE_VIEW_CID).bytes;
+        std::size_t answers_len = 0;
         std::random_device chance;
         for (auto &byte : draw)
             byte = static_cast<std::uint8_t>(chance());
         practice_result asked = practice_ask(image.data(), image.size(), request.data(), request.size(), draw.data(), draw.size(),
                                              questions.data(), questions.size());
-        std::size_t answers_len = 0;
-        if (asked.number != 0 || provider_answer(seed, sizeof seed, cid(), questions.data(), asked.length, answers.data(),
-                                                 answers.size(), &answers_len) != PROVIDER_DONE)
+        if (asked.number != PRACTICE_DONE || provider_answer(seed, sizeof seed, cid, questions.data(), asked.length, answers.data(),
+                                                             answers.size(), &answers_len) != PROVIDER_DONE)
             throw std::runtime_error("no tap");
         practice_result done = practice_settle(image.data(), image.size(), request.data(), request.size(), draw.data(), draw.size(),
                                                answers.data(), answers_len, response.data(), response.size(), next.data(), next.size());
-        if (done.number != 0)
+        if (done.number != PRACTICE_DONE)
             throw std::runtime_error("no tap");
         image.assign(next.begin(), next.begin() + image.size());
         response.resize(done.length);
         return response;
     }
 
-    const std::uint8_t *pin1() const { return image.data(); } // docs/IMAGE.md
-    const std::uint8_t *pin2() const { return image.data() + 32; }
-    const std::uint8_t *cid() const { return image.data() + 64; }
+    bytes create_wallet()
+    {
+        bytes request(PRACTICE_REQUEST_ROOM);
+        practice_codes codes = practice_codes_of(image.data());
+        request.resize(practice_request_create_wallet(request.data(), request.size(), &codes));
+        return tap(request);
+    }
+
+    std::uint32_t remaining() const { return practice_view_number(image.data(), PRACTICE_VIEW_REMAINING); }
 
 private:
     static constexpr std::uint8_t seed[] = {'p', 'r', 'a', 'c', 't', 'i', 'c', 'e'};
     bytes image;
 };
 
-static void field(bytes &request, std::uint8_t tag, const std::uint8_t *value, std::uint8_t length)
-{
-    request.insert(request.end(), {tag, length});
-    request.insert(request.end(), value, value + length);
-}
-
 int main()
 {
     std::string sheet(std::istreambuf_iterator<char>(std::cin), {});
     try {
         card one(sheet);
-        bytes request = {0x00, 0xF8, 0x00, 0x00, 78};
-        field(request, 0x10, one.pin1(), 32);
-        field(request, 0x01, one.cid(), 8);
-        field(request, 0x11, one.pin2(), 32);
-        for (int byte : one.tap(request))
+        for (int byte : one.create_wallet())
             std::printf("%02X", byte);
-        std::putchar('\n');
+        std::printf("\nRemaining %u\n", one.remaining());
     } catch (const std::exception &wrong) {
         std::cerr << wrong.what() << '\n';
         return 1;
