@@ -27,7 +27,7 @@ _tap()
     if ((COMP_CWORD == 1)); then
         choices="help $(sed -n 's/^  tap \([a-z]*\).*/\1/p' <<< "$help")"
     elif [[ $word == -* ]]; then
-        choices=$(grep -o -- '--[a-z0-9-]*[a-z0-9]' <<< "$help")
+        choices=$(grep '^  -' <<< "$help" | grep -o -- '--[a-z0-9-]*[a-z0-9]')
     elif (($(_tap_operands "$help") >= files)); then
         choices=$(sed -n '/^  tap /d; s/^  \([a-z][a-z-]*\) .*/\1/p' <<< "$help")
     fi
