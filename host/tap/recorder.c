@@ -89,17 +89,20 @@ static complaint catch_up(recorder *to, card *c)
     return NULL;
 }
 
-complaint recorder_open(recorder *to, const char *path, card *c)
+complaint recorder_open(recorder *to, const char *path)
 {
     *to = (recorder){.path = path, .file = -1};
     if (access(path, F_OK) != 0 && errno == ENOENT)
         return complain("%s: is not there: a recording begins with its sheet, so copy the card's sheet there first", path);
-    complaint wrong = open_plain(to);
-    if (!wrong && is_the_card(to, c))
-        wrong = complain("%s: is the card itself", path);
-    if (!wrong && (wrong = played_file(to->file, &to->so_far)))
-        wrong = complain("%s: %s", path, wrong);
-    return wrong ? wrong : catch_up(to, c);
+    return open_plain(to);
+}
+
+complaint recorder_go_on(recorder *to, card *c)
+{
+    if (is_the_card(to, c))
+        return complain("%s: is the card itself", to->path);
+    complaint wrong = played_file(to->file, &to->so_far);
+    return wrong ? complain("%s: %s", to->path, wrong) : catch_up(to, c);
 }
 
 /* ---- lines ---- */

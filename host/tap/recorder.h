@@ -24,8 +24,10 @@ typedef struct {
     size_t sheet_len;
 } recorder;
 
-/* Goes on with the recording of an open card. */
-complaint recorder_open(recorder *to, const char *path, card *c);
+/* Opens and locks a recording; plays it, and mends what a kill left of it and of its card, which is open. The lock comes before the
+ * card's: who records holds it until he ends, and the card's for a tap at a time. */
+complaint recorder_open(recorder *to, const char *path);
+complaint recorder_go_on(recorder *to, card *c);
 
 /* Begins one, in a file that is not there: it is made with the first line. */
 complaint recorder_begin(recorder *to, const char *path, const uint8_t *sheet, size_t length);

@@ -172,11 +172,11 @@ complaint send_requests(const settings *set, const char *path, size_t count, cha
 static complaint record_card(desk *d, const char *file, size_t count, char **arguments)
 {
     static recorder to;
-    complaint wrong = open_card(d);
-    if (wrong)
-        return wrong;
-    wrong = recorder_open(&to, file, &d->c);
-    close_card(d);
+    complaint wrong = recorder_open(&to, file);
+    if (!wrong && !(wrong = open_card(d))) {
+        wrong = recorder_go_on(&to, &d->c);
+        close_card(d);
+    }
     d->to = &to;
     d->taps = to.so_far.taps;
     if (!wrong)
