@@ -14,9 +14,7 @@
 #include <time.h>
 #include <unistd.h>
 
-#include "exchange.h"
-#include "image.h"
-#include "store.h"
+#include "card.h"
 
 #define PORT 35963
 #define CONNECT_TRIES 100
@@ -40,33 +38,12 @@ typedef struct {
 
 /* ---- one request ---- */
 
-static complaint tap_stored(const held_card *card, const store *file, const uint8_t *request, size_t length, exchange *tap)
-{
-    uint8_t image[PRACTICE_IMAGE_ROOM], draw[PRACTICE_DRAW];
-    size_t image_len;
-    complaint wrong = store_read(file, image, sizeof image, &image_len);
-    if (!wrong)
-        wrong = image_is_card(image, image_len);
-    if (!wrong)
-        wrong = seed_draw(card->keys, card->taps, draw);
-    if (!wrong)
-        wrong = exchange_tap(image, image_len, request, length, draw, card->keys, tap);
-    if (!wrong && memcmp(tap->next, image, image_len) != 0)
-        wrong = store_replace(file, tap->next, image_len);
-    return wrong;
-}
-
 /* The file is locked from reading to replacing and free between requests, so that `tap` may use the card meanwhile. */
 static complaint tap_card(held_card *card, const uint8_t *request, size_t length, exchange *tap)
 {
-    store file;
-    complaint wrong = store_open(&file, card->path);
-    if (wrong)
-        return wrong;
-    card->taps++;
-    wrong = tap_stored(card, &file, request, length, tap);
-    store_close(&file);
-    return wrong;
+    uint8_t draw[PRACTICE_DRAW];
+    complaint wrong = seed_draw(card->keys, ++card->taps, draw);
+    return wrong ? wrong : card_tap(card->path, card->keys, request, length, draw, tap);
 }
 
 /* ---- messages ---- */
@@ -142,10 +119,7 @@ static int connect_in_time(uint16_t port)
 static complaint look_at(const char *path)
 {
     static uint8_t image[PRACTICE_IMAGE_ROOM];
-    size_t length;
-    complaint wrong = store_read_file(path, image, sizeof image, &length);
-    if (!wrong)
-        wrong = image_is_card(image, length);
+    complaint wrong = card_read(path, image);
     return wrong ? complain("%s: %s", path, wrong) : NULL;
 }
 

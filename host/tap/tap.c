@@ -4,6 +4,8 @@
 #include <stdlib.h>
 #include <string.h>
 
+#include "bound.h"
+#include "card.h"
 #include "image.h"
 #include "practice.h"
 #include "provider.h"
@@ -16,21 +18,21 @@ static void help(void)
 {
     puts("tap: a practice card in a file, tapped from the command line. Its keys are practice keys: anybody can work them out.\n"
          "\n"
-         "  tap new SHEET CARD                 a fresh card file from a personalisation sheet\n"
+         "  tap new [--seed TEXT] SHEET CARD   a fresh card file from a personalisation sheet\n"
          "  tap send [OPTIONS] CARD REQUEST..  send requests, show each response in hex and in words\n"
          "  tap show CARD                      the card's values\n"
          "  tap keys [--seed TEXT] CARD        the public keys of the card and of its issuer\n"
          "  tap record [OPTIONS] SHEET FILE REQUEST..\n"
          "                                     a recording from a fresh card: the sheet, then a line for each tap\n"
          "  tap record [OPTIONS] CARD FILE REQUEST..\n"
-         "                                     as send, and put each tap's line at the end of FILE\n"
+         "                                     as send, and put each tap's line at the end of FILE, the card's recording\n"
          "\n"
          "A request is hex, or a word with its operands; a lone comma parts requests. Without a REQUEST each line of standard\n"
          "input is one. The words take the CID and the codes from the card:\n");
     request_help(stdout);
     puts("\n"
          "  --seed TEXT   keys and draws from this seed: the same taps are the same to the byte. Without it the keys come from\n"
-         "                the seed '" SEED_PRACTICE "' and the draws from chance\n"
+         "                the seed '" SEED_PRACTICE "' and the draws from chance. A card keeps to the seed of its first key\n"
          "  --pin1 TEXT, --pin2 TEXT, --cvc TEXT   send this code instead of the card's own; a PIN is hashed by SHA-256\n"
          "  --hex         print each response in hex alone");
 }
@@ -54,7 +56,7 @@ static complaint about(const char *path, complaint wrong)
     return wrong ? complain("%s: %s", path, wrong) : NULL;
 }
 
-static complaint new_card(const char *sheet_path, const char *card_path)
+static complaint new_card(const settings *set, const char *sheet_path, const char *card_path)
 {
     static uint8_t sheet[SHEET_ROOM], image[PRACTICE_IMAGE_ROOM];
     size_t length;
@@ -63,21 +65,13 @@ static complaint new_card(const char *sheet_path, const char *card_path)
         wrong = sheet_card(sheet, length, image);
     if (wrong)
         return about(sheet_path, wrong);
-    return about(card_path, store_create(card_path, image, practice_image_length()));
-}
-
-/* Reading needs no lock: the file is one whole card at every moment. */
-static complaint read_card(const char *path, uint8_t image[PRACTICE_IMAGE_ROOM])
-{
-    size_t length;
-    complaint wrong = store_read_file(path, image, PRACTICE_IMAGE_ROOM, &length);
-    return about(path, wrong ? wrong : image_is_card(image, length));
+    return about(card_path, card_create(card_path, image, set->keys));
 }
 
 static complaint show_card(const char *path)
 {
     static uint8_t image[PRACTICE_IMAGE_ROOM];
-    complaint wrong = read_card(path, image);
+    complaint wrong = about(path, card_read(path, image));
     for (practice_view_name name = 0; !wrong && name < PRACTICE_VIEW_VALUES; name++) {
         image_value value = image_get(image, name);
         printf("%-26s", value.name);
@@ -101,9 +95,12 @@ static complaint show_key(const char *name, seed keys, const uint8_t *image, pro
 static complaint show_keys(const settings *set, const char *path)
 {
     static uint8_t image[PRACTICE_IMAGE_ROOM];
-    complaint wrong = read_card(path, image);
+    complaint wrong = card_read(path, image);
     if (!wrong)
-        wrong = show_key("Card_PublicKey", set->keys, image, PROVIDER_CARD);
+        wrong = bound_fits(path, image, set->keys);
+    if (wrong)
+        return about(path, wrong);
+    wrong = show_key("Card_PublicKey", set->keys, image, PROVIDER_CARD);
     return wrong ? wrong : show_key("Issuer_Data_PublicKey", set->keys, image, PROVIDER_ISSUER);
 }
 
@@ -129,7 +126,7 @@ static int read_options(int count, char **arguments, settings *set)
 static int run(const settings *set, const char *command, size_t count, char **operands)
 {
     if (strcmp(command, "new") == 0)
-        return count == 2 ? ended(new_card(operands[0], operands[1])) : usage("new takes SHEET CARD");
+        return count == 2 ? ended(new_card(set, operands[0], operands[1])) : usage("new takes SHEET CARD");
     if (strcmp(command, "show") == 0)
         return count == 1 ? ended(show_card(operands[0])) : usage("show takes CARD");
     if (strcmp(command, "keys") == 0)
