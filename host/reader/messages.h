@@ -5,7 +5,7 @@
 #include <stddef.h>
 #include <stdint.h>
 
-#include "card.h"
+#include "held.h"
 
 /* From here on Ctrl-C and SIGTERM end waiting and nothing else, so that no tap is cut short. */
 void ends_by_signal(void);

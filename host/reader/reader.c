@@ -3,7 +3,7 @@
 #include <stdio.h>
 #include <stdlib.h>
 
-#include "card.h"
+#include "held.h"
 #include "messages.h"
 #include "tcp.h"
 #include "vpcd.h"
@@ -62,7 +62,7 @@ int main(int count, char **arguments)
         return usage();
     card.path = arguments[optind];
     ends_by_signal();
-    complaint wrong = card_look(&card);
+    complaint wrong = held_look(&card);
     if (!wrong)
         wrong = tcp ? tcp_serve(&card, (uint16_t)port_of(tcp)) : vpcd_serve(&card, port ? (uint16_t)port_of(port) : VPCD_PORT);
     if (wrong)

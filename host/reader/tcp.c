@@ -41,7 +41,7 @@ complaint tcp_serve(held_card *card, uint16_t port)
     while (readable_within(listener, FOR_EVER)) {
         int connection = accept4(listener, NULL, NULL, SOCK_CLOEXEC);
         if (connection >= 0)
-            serve(connection, listener, card, card_answer);
+            serve(connection, listener, card, held_answer);
     }
     close(listener);
     return NULL;

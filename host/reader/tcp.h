@@ -2,7 +2,7 @@
 #ifndef READER_TCP_H
 #define READER_TCP_H
 
-#include "card.h"
+#include "held.h"
 
 /* Listens on this port of 127.0.0.1, or on a free one where it is 0, and answers every request of every connection until a signal ends
  * it. One connection is served at a time, as a card is at one phone at a time; others wait. */

@@ -31,7 +31,7 @@ static size_t answer(held_card *card, const uint8_t *message, size_t length, uin
     }
     if (length == 1 && (message[0] == POWER_OFF || message[0] == POWER_ON || message[0] == RESET))
         return NO_ANSWER;
-    return card_answer(card, message, length, response);
+    return held_answer(card, message, length, response);
 }
 
 /* ---- into the reader ---- */

@@ -2,7 +2,7 @@
 #ifndef READER_VPCD_H
 #define READER_VPCD_H
 
-#include "card.h"
+#include "held.h"
 
 #define VPCD_PORT 35963
 

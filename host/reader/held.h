@@ -1,6 +1,6 @@
 /* The card that a client talks to: its file, and what a request gets. Every way to reach the card comes through here. */
-#ifndef READER_CARD_H
-#define READER_CARD_H
+#ifndef READER_HELD_H
+#define READER_HELD_H
 
 #include <stddef.h>
 #include <stdint.h>
@@ -16,9 +16,9 @@ typedef struct {
 } held_card;
 
 /* NULL where the file is a card. */
-complaint card_look(const held_card *card);
+complaint held_look(const held_card *card);
 
 /* One tap. Returns the length of the response, which is 6F00 where there was no tap; the reason then stands on standard error. */
-size_t card_answer(held_card *card, const uint8_t *request, size_t length, uint8_t response[PRACTICE_ROOM]);
+size_t held_answer(held_card *card, const uint8_t *request, size_t length, uint8_t response[PRACTICE_ROOM]);
 
 #endif

@@ -1,5 +1,5 @@
 /* One request is one tap on the card file. */
-#include "card.h"
+#include "held.h"
 
 #include <stdio.h>
 #include <string.h>
@@ -40,7 +40,7 @@ static complaint tap_card(held_card *card, const uint8_t *request, size_t length
     return wrong;
 }
 
-complaint card_look(const held_card *card)
+complaint held_look(const held_card *card)
 {
     static uint8_t image[PRACTICE_IMAGE_ROOM];
     size_t length;
@@ -50,7 +50,7 @@ complaint card_look(const held_card *card)
     return wrong ? complain("%s: %s", card->path, wrong) : NULL;
 }
 
-size_t card_answer(held_card *card, const uint8_t *request, size_t length, uint8_t response[PRACTICE_ROOM])
+size_t held_answer(held_card *card, const uint8_t *request, size_t length, uint8_t response[PRACTICE_ROOM])
 {
     static exchange tap;
     complaint wrong = tap_card(card, request, length, &tap);
