@@ -13,15 +13,16 @@
 #include <time.h>
 #include <unistd.h>
 
-#define TRIES 1000
 #define PAUSE_MS 10
+
+int store_patience = 10;
 
 static complaint because(const char *what)
 {
     return complain("%s: %s", what, strerror(errno));
 }
 
-static char *beside(const char *path, const char *ending)
+char *store_beside(const char *path, const char *ending)
 {
     char *name = malloc(strlen(path) + strlen(ending) + 1);
     if (name)
@@ -35,7 +36,7 @@ static char *beside(const char *path, const char *ending)
 static int lock_in_time(int lock)
 {
     const struct timespec pause = {0, PAUSE_MS * 1000000L};
-    for (int tries = 0; tries < TRIES; tries++) {
+    for (int tries = 0; tries < store_patience * 1000 / PAUSE_MS; tries++) {
         if (flock(lock, LOCK_EX | LOCK_NB) == 0)
             return 1;
         nanosleep(&pause, NULL);
@@ -45,7 +46,7 @@ static int lock_in_time(int lock)
 
 static complaint take_lock(store *card)
 {
-    char *name = beside(card->path, ".lock");
+    char *name = store_beside(card->path, ".lock");
     card->lock = name ? open(name, O_RDWR | O_CREAT | O_CLOEXEC, 0666) : -1;
     free(name);
     if (card->lock < 0)
@@ -103,11 +104,6 @@ complaint store_read_file(const char *path, uint8_t *bytes, size_t room, size_t 
     return wrong;
 }
 
-complaint store_read(const store *card, uint8_t *image, size_t room, size_t *length)
-{
-    return store_read_file(card->path, image, room, length);
-}
-
 /* ---- replacing ---- */
 
 static int write_all(int file, const uint8_t *bytes, size_t length)
@@ -148,12 +144,12 @@ static complaint sync_folder(const char *path)
     return wrong;
 }
 
-static complaint replace(const char *path, const uint8_t *bytes, size_t length)
+static complaint replace(const char *path, const char *like, const uint8_t *bytes, size_t length)
 {
-    char *name = beside(path, ".new");
+    char *name = store_beside(path, ".new");
     if (!name)
         return because("no memory");
-    complaint wrong = write_new(name, path, bytes, length);
+    complaint wrong = write_new(name, like, bytes, length);
     if (!wrong && rename(name, path) != 0)
         wrong = because("cannot be replaced");
     if (wrong)
@@ -164,7 +160,15 @@ static complaint replace(const char *path, const uint8_t *bytes, size_t length)
 
 complaint store_replace(const store *card, const uint8_t *image, size_t length)
 {
-    return replace(card->path, image, length);
+    return replace(card->path, card->path, image, length);
+}
+
+complaint store_replace_beside(const store *card, const char *ending, const uint8_t *bytes, size_t length)
+{
+    char *name = store_beside(card->path, ending);
+    complaint wrong = name ? replace(name, card->path, bytes, length) : because("no memory");
+    free(name);
+    return wrong;
 }
 
 complaint store_write_file(const char *path, const uint8_t *bytes, size_t length)
@@ -172,7 +176,7 @@ complaint store_write_file(const char *path, const uint8_t *bytes, size_t length
     struct stat there;
     if (lstat(path, &there) == 0)
         return complain("exists already, and is left as it is");
-    return replace(path, bytes, length);
+    return replace(path, path, bytes, length);
 }
 
 complaint store_create(const char *path, const uint8_t *image, size_t length)

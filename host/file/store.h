@@ -16,13 +16,16 @@ typedef struct {
     int lock;
 } store;
 
-/* Waits up to ten seconds for the lock. After a complaint nothing is held. */
+/* Waits for the lock, up to ten seconds unless a program says otherwise before. After a complaint nothing is held. */
+extern int store_patience;
 complaint store_open(store *card, const char *path);
 void store_close(store *card);
 
-/* Reads the file, which may be no card: image_is_card tells. */
-complaint store_read(const store *card, uint8_t *image, size_t room, size_t *length);
 complaint store_replace(const store *card, const uint8_t *image, size_t length);
+
+/* CARD.ending, as CARD.seed: a name beside the card, to be freed; a file of that name, replaced as the card is and with its rights. */
+char *store_beside(const char *path, const char *ending);
+complaint store_replace_beside(const store *card, const char *ending, const uint8_t *bytes, size_t length);
 
 /* A card file where there was none. */
 complaint store_create(const char *path, const uint8_t *image, size_t length);

@@ -8,6 +8,7 @@
 #include <string.h>
 #include <unistd.h>
 
+#include "bound.h"
 #include "feed.h"
 #include "hex.h"
 #include "image.h"
@@ -40,8 +41,10 @@ static complaint make_request(const desk *d, size_t count, char *const *words, t
 
 static complaint tap_image(const desk *d, tap *t)
 {
-    complaint wrong = exchange_tap(d->image, d->image_len, t->sent.bytes, t->sent.length, t->draw, d->set->keys, &t->got);
-    return wrong && d->path ? complain("%s: %s", d->path, wrong) : wrong;
+    complaint wrong = d->path ? bound_fits(d->path, d->image, d->set->keys) : NULL;
+    if (wrong)
+        return complain("%s: %s", d->path, wrong);
+    return exchange_tap(d->image, t->sent.bytes, t->sent.length, t->draw, d->set->keys, &t->got);
 }
 
 /* ---- lines of a recording ---- */
@@ -87,7 +90,7 @@ static complaint write_line(const recorder *to, const tap *t)
 
 static complaint read_card(desk *d, const store *card)
 {
-    complaint wrong = store_read(card, d->image, sizeof d->image, &d->image_len);
+    complaint wrong = store_read_file(card->path, d->image, sizeof d->image, &d->image_len);
     if (!wrong)
         wrong = image_is_card(d->image, d->image_len);
     return wrong ? complain("%s: %s", d->path, wrong) : NULL;

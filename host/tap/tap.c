@@ -4,6 +4,8 @@
 #include <stdlib.h>
 #include <string.h>
 
+#include "bound.h"
+#include "card.h"
 #include "image.h"
 #include "practice.h"
 #include "provider.h"
@@ -66,18 +68,10 @@ static complaint new_card(const char *sheet_path, const char *card_path)
     return about(card_path, store_create(card_path, image, practice_image_length()));
 }
 
-/* Reading needs no lock: the file is one whole card at every moment. */
-static complaint read_card(const char *path, uint8_t image[PRACTICE_IMAGE_ROOM])
-{
-    size_t length;
-    complaint wrong = store_read_file(path, image, PRACTICE_IMAGE_ROOM, &length);
-    return about(path, wrong ? wrong : image_is_card(image, length));
-}
-
 static complaint show_card(const char *path)
 {
     static uint8_t image[PRACTICE_IMAGE_ROOM];
-    complaint wrong = read_card(path, image);
+    complaint wrong = about(path, card_read(path, image));
     for (image_name name = 0; !wrong && name < IMAGE_VALUES; name++) {
         image_value value = image_get(image, name);
         printf("%-26s", value.name);
@@ -101,9 +95,12 @@ static complaint show_key(const char *name, seed keys, const uint8_t *image, pro
 static complaint show_keys(const settings *set, const char *path)
 {
     static uint8_t image[PRACTICE_IMAGE_ROOM];
-    complaint wrong = read_card(path, image);
+    complaint wrong = card_read(path, image);
     if (!wrong)
-        wrong = show_key("Card_PublicKey", set->keys, image, PROVIDER_CARD);
+        wrong = bound_fits(path, image, set->keys);
+    if (wrong)
+        return about(path, wrong);
+    wrong = show_key("Card_PublicKey", set->keys, image, PROVIDER_CARD);
     return wrong ? wrong : show_key("Issuer_Data_PublicKey", set->keys, image, PROVIDER_ISSUER);
 }
 

@@ -1,0 +1,19 @@
+/* Which seed a card file belongs to. Its fingerprint (docs/KEYS.md) stands in CARD.seed beside the card, from the first tap on in which
+ * a key of the seed was used: the card file itself is exactly the image. */
+#ifndef BOUND_H
+#define BOUND_H
+
+#include <stdint.h>
+
+#include "complaint.h"
+#include "seed.h"
+#include "store.h"
+
+/* A complaint where the card was made under another seed: by CARD.seed, or where that is missing by the key of its wallet. */
+complaint bound_fits(const char *path, const uint8_t *image, seed keys);
+
+/* Writes CARD.seed of a locked card where it is missing; made says whether it was. */
+complaint bound_write(const store *card, seed keys, int *made);
+void bound_remove(const char *path);
+
+#endif
