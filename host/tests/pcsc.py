@@ -54,21 +54,23 @@ def furnish():
     os.mkdir("/run/pcscd")
 
 
-def own_place():
-    """Starts this test again in a place of its own, where one can be had. Where there can be no pcscd for us the test ends here."""
+def own_place() -> bool:
+    """Starts this test again in a place of its own, where one can be had. False, with a line, where there can be no pcscd for us."""
     if INSIDE in sys.argv:
-        return furnish()
+        furnish()
+        return True
     gone = missing()
     if gone:
         print(f"skip the card in a reader: missing {', '.join(gone)}; host/build installs them as root")
-        sys.exit(0)
+        return False
     for words in APART:
         if shutil.which("unshare") and subprocess.run([*words, "true"], capture_output=True).returncode == 0:
             sys.stdout.flush()
             os.execvp(words[0], [*words, sys.executable, *sys.argv, INSIDE])
     if os.path.exists("/run/pcscd/pcscd.comm"):
         print("skip the card in a reader: a pcscd is running here, and the system gives no place of our own beside it")
-        sys.exit(0)
+        return False
+    return True
 
 
 # ---------------------------------------------------------------- pcscd
