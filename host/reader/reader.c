@@ -22,7 +22,14 @@ static int help(void)
          "  --port NUMBER  where vpcd waits on 127.0.0.1 (35963)\n"
          "  --tcp NUMBER   no reader: listens on this port of 127.0.0.1, or on a free one where it is 0, and prints which. A\n"
          "                 message is two bytes of length, the higher first, and the request; its answer likewise\n"
-         "  -h, --help     this");
+         "  -h, --help     this\n"
+         "  --version      what this is");
+    return 0;
+}
+
+static int version(void)
+{
+    puts("reader, of Merelstof");
     return 0;
 }
 
@@ -46,6 +53,7 @@ int main(int count, char **arguments)
                                             {"port", required_argument, NULL, 'p'},
                                             {"tcp", required_argument, NULL, 't'},
                                             {"help", no_argument, NULL, 'h'},
+                                            {"version", no_argument, NULL, 'v'},
                                             {0}};
     held_card card = {.keys = seed_of(NULL)};
     const char *port = NULL, *tcp = NULL;
@@ -56,6 +64,7 @@ int main(int count, char **arguments)
         case 'p': port = optarg; break;
         case 't': tcp = optarg; break;
         case 'h': return help();
+        case 'v': return version();
         default: return usage();
         }
     if (optind != count - 1 || card.keys.length == 0 || (port && (tcp || port_of(port) <= 0)) || (tcp && port_of(tcp) < 0))
