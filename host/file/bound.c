@@ -11,7 +11,7 @@
 
 #define ENDING ".seed"
 
-/* Whether a seed is the card's; UNKNOWN where CARD.seed is missing. */
+/* Whether a seed is the card's. */
 typedef enum { UNKNOWN, FITS, OTHER } fit;
 
 static complaint fit_of_file(const char *name, seed keys, fit *found)
@@ -24,9 +24,9 @@ static complaint fit_of_file(const char *name, seed keys, fit *found)
         return NULL;
     complaint wrong = seed_fingerprint(keys, own);
     if (!wrong && (wrong = store_read_file(name, kept, sizeof kept, &length)))
-        wrong = complain("its seed file beside it %s", wrong);
+        wrong = complain("its seed file: %s", wrong);
     if (!wrong && (length != SEED_FINGERPRINT + 1 || kept[SEED_FINGERPRINT] != '\n'))
-        wrong = complain("its seed file beside it holds no fingerprint");
+        wrong = complain("its seed file holds no fingerprint");
     if (!wrong)
         *found = memcmp(kept, own, SEED_FINGERPRINT) == 0 ? FITS : OTHER;
     return wrong;
@@ -46,37 +46,46 @@ static fit fit_of_wallet(const uint8_t *image, seed keys)
     return made == PROVIDER_DONE && length == held.length && memcmp(key, held.bytes, length) == 0 ? FITS : OTHER;
 }
 
-complaint bound_fits(const char *path, const uint8_t *image, seed keys)
+static complaint find_fit(const char *path, const uint8_t *image, seed keys, fit *found)
 {
-    fit found;
     char *card = realpath(path, NULL), *name = card ? store_beside(card, ENDING) : NULL;
-    complaint wrong = name ? fit_of_file(name, keys, &found) : complain("cannot be opened: %s", strerror(errno));
+    complaint wrong = name ? fit_of_file(name, keys, found) : complain("cannot be opened: %s", strerror(errno));
     free(name);
     free(card);
-    if (!wrong && found == UNKNOWN)
-        found = fit_of_wallet(image, keys);
-    if (!wrong && found == OTHER)
-        wrong = complain("was made under another seed; give it with --seed");
+    if (!wrong && *found == UNKNOWN)
+        *found = fit_of_wallet(image, keys);
     return wrong;
 }
 
-complaint bound_write(const store *card, seed keys, int *made)
+complaint bound_fits(const char *path, const uint8_t *image, seed keys)
+{
+    fit found, by_practice;
+    complaint wrong = find_fit(path, image, keys, &found);
+    if (wrong || found != OTHER)
+        return wrong;
+    wrong = find_fit(path, image, seed_of(NULL), &by_practice);
+    return wrong ? wrong : complain("was made under another seed; %s", by_practice == FITS ? "leave out --seed" : "give it with --seed");
+}
+
+int bound_is(const store *card)
+{
+    char *name = store_beside(card->path, ENDING);
+    int is = name && access(name, F_OK) == 0;
+    free(name);
+    return is;
+}
+
+complaint bound_write(const store *card, seed keys)
 {
     char text[SEED_FINGERPRINT + 1];
-    char *name = store_beside(card->path, ENDING);
-    *made = name && access(name, F_OK) != 0;
-    complaint wrong = name ? NULL : complain("no memory");
-    free(name);
-    if (wrong || !*made)
-        return wrong;
-    wrong = seed_fingerprint(keys, text);
+    complaint wrong = seed_fingerprint(keys, text);
     text[SEED_FINGERPRINT] = '\n';
     return wrong ? wrong : store_replace_beside(card, ENDING, (const uint8_t *)text, sizeof text);
 }
 
-void bound_remove(const char *path)
+void bound_remove(const store *card)
 {
-    char *name = store_beside(path, ENDING);
+    char *name = store_beside(card->path, ENDING);
     if (name)
         unlink(name);
     free(name);

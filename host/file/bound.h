@@ -12,8 +12,9 @@
 /* A complaint where the card was made under another seed: by CARD.seed, or where that is missing by the key of its wallet. */
 complaint bound_fits(const char *path, const uint8_t *image, seed keys);
 
-/* Writes CARD.seed of a locked card where it is missing; made says whether it was. */
-complaint bound_write(const store *card, seed keys, int *made);
-void bound_remove(const char *path);
+/* CARD.seed of a locked card: whether it is there, written, removed. */
+int bound_is(const store *card);
+complaint bound_write(const store *card, seed keys);
+void bound_remove(const store *card);
 
 #endif

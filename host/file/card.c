@@ -9,9 +9,27 @@
 complaint card_read(const char *path, uint8_t image[PRACTICE_IMAGE_ROOM])
 {
     size_t length;
-    complaint wrong = store_read_file(path, image, PRACTICE_IMAGE_ROOM, &length);
+    complaint wrong = store_read_plain(path, image, PRACTICE_IMAGE_ROOM, &length);
     return wrong ? wrong : image_is_card(image, length);
 }
+
+/* A seed that stands there already is that of a card which is gone. */
+complaint card_create(const char *path, const uint8_t *image, seed keys)
+{
+    store file;
+    complaint wrong = store_open_new(&file, path);
+    if (wrong)
+        return wrong;
+    bound_remove(&file);
+    if (keys.draws)
+        wrong = bound_write(&file, keys);
+    if (!wrong && (wrong = store_replace(&file, image, practice_image_length())))
+        bound_remove(&file);
+    store_close(&file);
+    return wrong;
+}
+
+/* ---- a tap in steps ---- */
 
 /* What is no card gets no lock file beside it. */
 complaint card_open(card *c, const char *path)
@@ -21,7 +39,7 @@ complaint card_open(card *c, const char *path)
         wrong = store_open(&c->file, path);
     if (wrong)
         return wrong;
-    c->keyed = 0;
+    c->keyed = c->bound = 0;
     if ((wrong = card_read(c->file.path, c->image)))
         store_close(&c->file);
     return wrong;
@@ -35,7 +53,7 @@ void card_close(card *c)
 complaint card_use_keys(card *c, seed keys)
 {
     complaint wrong = bound_fits(c->file.path, c->image, keys);
-    c->keyed = !wrong;
+    c->keyed |= !wrong;
     return wrong;
 }
 
@@ -47,23 +65,40 @@ complaint card_answer(card *c, seed keys, const uint8_t *request, size_t length,
     return wrong ? wrong : exchange_settle(c->image, request, length, draw, keys, tap);
 }
 
-/* The seed goes first: a kill between the two leaves a card that knows the seed of a tap that was not made. The other way round it
- * would hold what was made under a seed that it does not know. */
-complaint card_keep(card *c, seed keys, const exchange *tap)
+complaint card_bind(card *c, seed keys)
+{
+    complaint wrong = NULL;
+    if (c->keyed && !bound_is(&c->file)) {
+        wrong = bound_write(&c->file, keys);
+        c->bound = !wrong;
+    }
+    return wrong;
+}
+
+void card_unbind(card *c)
+{
+    if (c->bound)
+        bound_remove(&c->file);
+    c->bound = 0;
+}
+
+complaint card_keep(card *c, const exchange *tap)
 {
     size_t length = practice_image_length();
-    int bound = 0;
-    complaint wrong = c->keyed ? bound_write(&c->file, keys, &bound) : NULL;
-    if (wrong || memcmp(tap->next, c->image, length) == 0)
-        return wrong;
-    wrong = store_replace(&c->file, tap->next, length);
-    if (wrong && bound)
-        bound_remove(c->file.path);
+    complaint wrong = memcmp(tap->next, c->image, length) != 0 ? store_replace(&c->file, tap->next, length) : NULL;
     if (!wrong)
         memcpy(c->image, tap->next, length);
     return wrong;
 }
 
+int card_holds(const card *c, const uint8_t *image)
+{
+    uint8_t now[PRACTICE_IMAGE_ROOM];
+    return !card_read(c->file.path, now) && memcmp(now, image, practice_image_length()) == 0;
+}
+
+/* The seed goes first: a kill between the two leaves a card that knows the seed of a tap that was not made. The other way round it
+ * would hold what was made under a seed that it does not know. */
 complaint card_tap(const char *path, seed keys, const uint8_t *request, size_t length, const uint8_t draw[PRACTICE_DRAW],
                    exchange *tap)
 {
@@ -73,7 +108,9 @@ complaint card_tap(const char *path, seed keys, const uint8_t *request, size_t l
         return wrong;
     wrong = card_answer(&c, keys, request, length, draw, tap);
     if (!wrong)
-        wrong = card_keep(&c, keys, tap);
+        wrong = card_bind(&c, keys);
+    if (!wrong && (wrong = card_keep(&c, tap)) && !card_holds(&c, tap->next))
+        card_unbind(&c);
     card_close(&c);
     return wrong;
 }

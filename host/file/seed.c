@@ -1,11 +1,11 @@
 /* Seeds and draws. */
 #include "seed.h"
 
-#include <stdio.h>
 #include <stdlib.h>
 #include <string.h>
 #include <sys/random.h>
 
+#include "hex.h"
 #include "provider.h"
 
 seed seed_of(const char *text)
@@ -31,7 +31,6 @@ complaint seed_fingerprint(seed of, char text[SEED_FINGERPRINT + 1])
     memcpy(message + of.length, label, strlen(label));
     provider_result done = provider_sha256(message, of.length + strlen(label), hash);
     free(message);
-    for (size_t at = 0; at < sizeof hash; at++)
-        sprintf(text + 2 * at, "%02X", hash[at]);
+    hex_write(text, hash, sizeof hash);
     return done == PROVIDER_DONE ? NULL : complain("no fingerprint of the seed could be made");
 }

@@ -18,21 +18,21 @@ static void help(void)
 {
     puts("tap: a practice card in a file, tapped from the command line. Its keys are practice keys: anybody can work them out.\n"
          "\n"
-         "  tap new SHEET CARD                 a fresh card file from a personalisation sheet\n"
+         "  tap new [--seed TEXT] SHEET CARD   a fresh card file from a personalisation sheet\n"
          "  tap send [OPTIONS] CARD REQUEST..  send requests, show each response in hex and in words\n"
          "  tap show CARD                      the card's values\n"
          "  tap keys [--seed TEXT] CARD        the public keys of the card and of its issuer\n"
          "  tap record [OPTIONS] SHEET FILE REQUEST..\n"
          "                                     a recording from a fresh card: the sheet, then a line for each tap\n"
          "  tap record [OPTIONS] CARD FILE REQUEST..\n"
-         "                                     as send, and put each tap's line at the end of FILE\n"
+         "                                     as send, and put each tap's line at the end of FILE, the card's recording\n"
          "\n"
          "A request is hex, or a word with its operands; a lone comma parts requests. Without a REQUEST each line of standard\n"
          "input is one. The words take the CID and the codes from the card:\n");
     request_help(stdout);
     puts("\n"
          "  --seed TEXT   keys and draws from this seed: the same taps are the same to the byte. Without it the keys come from\n"
-         "                the seed '" SEED_PRACTICE "' and the draws from chance\n"
+         "                the seed '" SEED_PRACTICE "' and the draws from chance. A card keeps to the seed of its first key\n"
          "  --pin1 TEXT, --pin2 TEXT, --cvc TEXT   send this code instead of the card's own; a PIN is hashed by SHA-256\n"
          "  --hex         print each response in hex alone");
 }
@@ -56,7 +56,7 @@ static complaint about(const char *path, complaint wrong)
     return wrong ? complain("%s: %s", path, wrong) : NULL;
 }
 
-static complaint new_card(const char *sheet_path, const char *card_path)
+static complaint new_card(const settings *set, const char *sheet_path, const char *card_path)
 {
     static uint8_t sheet[SHEET_ROOM], image[PRACTICE_IMAGE_ROOM];
     size_t length;
@@ -65,7 +65,7 @@ static complaint new_card(const char *sheet_path, const char *card_path)
         wrong = sheet_card(sheet, length, image);
     if (wrong)
         return about(sheet_path, wrong);
-    return about(card_path, store_create(card_path, image, practice_image_length()));
+    return about(card_path, card_create(card_path, image, set->keys));
 }
 
 static complaint show_card(const char *path)
@@ -126,7 +126,7 @@ static int read_options(int count, char **arguments, settings *set)
 static int run(const settings *set, const char *command, size_t count, char **operands)
 {
     if (strcmp(command, "new") == 0)
-        return count == 2 ? ended(new_card(operands[0], operands[1])) : usage("new takes SHEET CARD");
+        return count == 2 ? ended(new_card(set, operands[0], operands[1])) : usage("new takes SHEET CARD");
     if (strcmp(command, "show") == 0)
         return count == 1 ? ended(show_card(operands[0])) : usage("show takes CARD");
     if (strcmp(command, "keys") == 0)

@@ -21,14 +21,30 @@ static void cut_here(void)
         raise(SIGKILL);
 }
 
+/* A call that has nothing of its own to it: its name, its operands, and how they are handed on. */
+#define CUT_BEFORE(name, operands, given) \
+    int __real_##name operands;           \
+    int __wrap_##name operands;           \
+    int __wrap_##name operands            \
+    {                                     \
+        cut_here();                       \
+        return __real_##name given;       \
+    }
+
+CUT_BEFORE(fchmod, (int file, mode_t mode), (file, mode))
+CUT_BEFORE(fchown, (int file, uid_t owner, gid_t group), (file, owner, group))
+CUT_BEFORE(fsync, (int file), (file))
+CUT_BEFORE(syncfs, (int file), (file))
+CUT_BEFORE(ftruncate, (int file, off_t length), (file, length))
+CUT_BEFORE(rename, (const char *from, const char *to), (from, to))
+CUT_BEFORE(renameat2, (int at, const char *from, int there, const char *to, unsigned how), (at, from, there, to, how))
+CUT_BEFORE(unlink, (const char *path), (path))
+CUT_BEFORE(close, (int file), (file))
+CUT_BEFORE(flock, (int file, int how), (file, how))
+
 int __real_open(const char *, int, ...);
 ssize_t __real_read(int, void *, size_t);
 ssize_t __real_write(int, const void *, size_t);
-int __real_fchmod(int, mode_t);
-int __real_fsync(int);
-int __real_rename(const char *, const char *);
-int __real_close(int);
-int __real_flock(int, int);
 
 int __wrap_open(const char *path, int flags, ...)
 {
@@ -46,6 +62,7 @@ ssize_t __wrap_read(int file, void *bytes, size_t length)
     return __real_read(file, bytes, length);
 }
 
+/* Of a write that is cut half is done. */
 ssize_t __wrap_write(int file, const void *bytes, size_t length)
 {
     if (now_is_the_time()) {
@@ -53,34 +70,4 @@ ssize_t __wrap_write(int file, const void *bytes, size_t length)
         raise(SIGKILL);
     }
     return __real_write(file, bytes, length);
-}
-
-int __wrap_fchmod(int file, mode_t mode)
-{
-    cut_here();
-    return __real_fchmod(file, mode);
-}
-
-int __wrap_fsync(int file)
-{
-    cut_here();
-    return __real_fsync(file);
-}
-
-int __wrap_rename(const char *from, const char *to)
-{
-    cut_here();
-    return __real_rename(from, to);
-}
-
-int __wrap_close(int file)
-{
-    cut_here();
-    return __real_close(file);
-}
-
-int __wrap_flock(int file, int how)
-{
-    cut_here();
-    return __real_flock(file, how);
 }
