@@ -37,12 +37,12 @@ static fit fit_of_wallet(const uint8_t *image, seed keys)
 {
     uint8_t key[PROVIDER_KEY];
     size_t length;
-    image_value held = image_get(image, IMAGE_WALLET_PUBLIC_KEY);
+    image_value held = image_get(image, PRACTICE_VIEW_WALLET_PUBLIC_KEY);
     if (held.length == 0)
         return UNKNOWN;
-    provider_result made = provider_public_key(keys.bytes, keys.length, image_get(image, IMAGE_CID).bytes, PROVIDER_WALLET,
-                                               (uint16_t)image_number(image, IMAGE_WALLET_NUMBER),
-                                               (uint8_t)image_number(image, IMAGE_CURVE), key, &length);
+    provider_result made = provider_public_key(keys.bytes, keys.length, image_get(image, PRACTICE_VIEW_CID).bytes, PROVIDER_WALLET,
+                                               (uint16_t)practice_view_number(image, PRACTICE_VIEW_WALLET_NUMBER),
+                                               (uint8_t)practice_view_number(image, PRACTICE_VIEW_CURVE), key, &length);
     return made == PROVIDER_DONE && length == held.length && memcmp(key, held.bytes, length) == 0 ? FITS : OTHER;
 }
 

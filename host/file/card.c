@@ -2,6 +2,7 @@
 #include "card.h"
 
 #include <string.h>
+#include <unistd.h>
 
 #include "bound.h"
 #include "image.h"
@@ -23,7 +24,9 @@ complaint card_create(const char *path, const uint8_t *image, seed keys)
     bound_remove(&file);
     if (keys.draws)
         wrong = bound_write(&file, keys);
-    if (!wrong && (wrong = store_replace(&file, image, practice_image_length())))
+    if (!wrong)
+        wrong = store_replace(&file, image, practice_image_length());
+    if (wrong && access(path, F_OK) != 0)
         bound_remove(&file);
     store_close(&file);
     return wrong;
@@ -65,21 +68,22 @@ complaint card_answer(card *c, seed keys, const uint8_t *request, size_t length,
     return wrong ? wrong : exchange_settle(c->image, request, length, draw, keys, tap);
 }
 
-complaint card_bind(card *c, seed keys)
-{
-    complaint wrong = NULL;
-    if (c->keyed && !bound_is(&c->file)) {
-        wrong = bound_write(&c->file, keys);
-        c->bound = !wrong;
-    }
-    return wrong;
-}
-
 void card_unbind(card *c)
 {
     if (c->bound)
         bound_remove(&c->file);
     c->bound = 0;
+}
+
+complaint card_bind(card *c, seed keys)
+{
+    if (!c->keyed || bound_is(&c->file))
+        return NULL;
+    c->bound = 1;
+    complaint wrong = bound_write(&c->file, keys);
+    if (wrong)
+        card_unbind(c);
+    return wrong;
 }
 
 complaint card_keep(card *c, const exchange *tap)

@@ -21,7 +21,7 @@ complaint exchange_ask(const uint8_t *image, const uint8_t *request, size_t leng
 complaint exchange_settle(const uint8_t *image, const uint8_t *request, size_t length, const uint8_t draw[PRACTICE_DRAW], seed keys,
                           exchange *tap)
 {
-    provider_result answered = provider_answer(keys.bytes, keys.length, image_get(image, IMAGE_CID).bytes, tap->questions,
+    provider_result answered = provider_answer(keys.bytes, keys.length, image_get(image, PRACTICE_VIEW_CID).bytes, tap->questions,
                                                tap->questions_len, tap->answers, sizeof tap->answers, &tap->answers_len);
     if (answered != PROVIDER_DONE)
         return complain("the provider could not answer (%d)", answered);

@@ -16,16 +16,58 @@
 #include <stddef.h>
 #include <stdint.h>
 
+#ifdef __cplusplus
+extern "C" {
+#endif
+
+/* How a call ended: `number` of its result. With any but PRACTICE_DONE word and length are 0, and every buffer is as it was. */
+enum {
+    PRACTICE_DONE = 0,
+    PRACTICE_NO_CARD = 1,   /* the image is no card */
+    PRACTICE_NO_ROOM = 2,   /* a buffer is too short: PRACTICE_ROOM for questions and response, PRACTICE_IMAGE_ROOM for the next image */
+    PRACTICE_NO_DRAW = 3,   /* the draw has not PRACTICE_DRAW bytes */
+    PRACTICE_NO_ANSWERS = 4 /* the answers have not the shape that the questions ask for (practice_settle only) */
+};
+
+/* The status words: `word` of a result, and the last two bytes of a response. 9000 to 9003 are done, any other is a refusal. */
+enum {
+    PRACTICE_SW_PROCESS_COMPLETED = 0x9000, /* done; after SET_PIN: both codes are as they were */
+    PRACTICE_SW_PIN1_CHANGED = 0x9001,      /* done, by SET_PIN alone: PIN1 is another now */
+    PRACTICE_SW_PIN2_CHANGED = 0x9002,
+    PRACTICE_SW_PINS_CHANGED = 0x9003,
+    PRACTICE_SW_ERROR_PROCESSING_COMMAND = 0x6286, /* by WRITE_ISSUER_DATA alone: the issuer did not sign this */
+    PRACTICE_SW_WRONG_LENGTH = 0x6700,      /* the request has not 6 to 1,024 bytes, or does not end where its Lc says */
+    PRACTICE_SW_NEED_ENCRYPTION = 0x6982,   /* P2 names an encryption (01, 02), and no session is open */
+    PRACTICE_SW_INVALID_STATUS = 0x6985,    /* not in the card's state, or a condition of the command fails */
+    PRACTICE_SW_INVALID_PARAMS = 0x6A86,    /* a code, the CID or a field is absent, wrong or malformed */
+    PRACTICE_SW_INS_NOT_SUPPORTED = 0x6D00, /* no such command */
+    PRACTICE_SW_CLA_NOT_SUPPORTED = 0x6E00  /* no such class */
+};
+
+/* What a question wants: its first byte. Beside each what answers it. */
+enum {
+    PRACTICE_MAKE_KEY = 1,      /* a key for this wallet: 65 bytes starting 04, or 32 on ed25519 */
+    PRACTICE_SIGN_HASH = 2,     /* the wallet key's signature of this hash: 64 bytes */
+    PRACTICE_HASH_AND_SIGN = 3, /* the wallet key's of the message's SHA-256, on ed25519 of its SHA-512: 64 bytes */
+    PRACTICE_CARD_SIGNS = 4,    /* the card key's of the message's SHA-256: 64 bytes */
+    PRACTICE_ISSUER_SIGNED = 5  /* do the first 64 bytes sign the SHA-256 of the rest under the issuer data key? 1 byte: 1 yes, 0 no */
+};
+
+/* The curve of a card's wallets: a question's fourth byte, and a value of the image. */
+enum { PRACTICE_SECP256K1 = 1, PRACTICE_ED25519 = 2 };
+
+/* The card's Status: field 02 of a response, and a value of the image. */
+enum {
+    PRACTICE_EMPTY = 1,  /* no wallet: one can be made */
+    PRACTICE_LOADED = 2, /* a wallet is there */
+    PRACTICE_PURGED = 3  /* the wallet of a card that is not reusable is gone, for good */
+};
+
 /* What a call returns.
  *
- *   number  0  done: word is the status word, length the number of bytes written
- *           1  the image is no card
- *           2  a buffer is too short: PRACTICE_ROOM for questions and for a response, PRACTICE_IMAGE_ROOM for the next image
- *           3  the draw has not PRACTICE_DRAW bytes
- *           4  the answers have not the shape that the questions ask for (practice_settle only)
- *           With 1 to 4 word and length are 0, and every buffer is as it was.
+ *   number  how it ended
  *   reason  0 for now.
- *   word    the status word, as the card's last two bytes: 9000 to 9003 done, any other refused.
+ *   word    the status word
  *   length  the bytes written to the buffer for questions, or for the response. Bytes after them are as they were. */
 typedef struct {
     uint8_t number;
@@ -41,13 +83,7 @@ typedef struct {
 /* The questions of a request. The card does not change.
  *
  * in:   the image, the request as it came, PRACTICE_DRAW random bytes
- * out:  questions, one after the other: kind (1), wallet number (2), curve (1: 1 secp256k1, 2 ed25519), message length (2), message;
- *       numbers are big-endian. The kinds, and what answers each:
- *         1  make a key for this wallet      the key: 65 bytes starting 04, or 32 on ed25519
- *         2  sign this hash, wallet key      64 bytes
- *         3  hash and sign, wallet key       64 bytes (SHA-256 on secp256k1, SHA-512 on ed25519)
- *         4  SHA-256 and sign, card key      64 bytes
- *         5  do the first 64 bytes sign the SHA-256 of the rest under the issuer data key?    one byte: 1 yes, 0 no
+ * out:  questions, one after the other: kind (1), wallet number (2), curve (1), message length (2), message; numbers are big-endian.
  * A request that is refused before any question is asked gives its status word and no question; otherwise the word is 9000, whatever
  * practice_settle will say. */
 practice_result practice_ask(const uint8_t *image, size_t image_len, const uint8_t *request, size_t request_len, const uint8_t *draw,
@@ -73,5 +109,9 @@ uint32_t practice_personalise(const uint8_t *sheet, size_t sheet_len, uint8_t *i
 
 /* How many bytes an image has. */
 uint32_t practice_image_length(void);
+
+#ifdef __cplusplus
+}
+#endif
 
 #endif

@@ -5,11 +5,10 @@
 #include <secp256k1.h>
 #include <string.h>
 
+#include "practice.h"
+
 #define SECRET 32
 #define QUESTION_HEADER 6
-
-enum { SECP256K1 = 1, ED25519 = 2 };
-enum { MAKE_KEY = 1, SIGN_HASH = 2, HASH_AND_SIGN = 3, CARD_SIGNS = 4, ISSUER_SIGNED = 5 };
 
 typedef struct {
     const uint8_t *bytes;
@@ -121,7 +120,7 @@ provider_result provider_public_key(const uint8_t *seed, size_t seed_len, const 
     *key_len = 0;
     if (secret_of((provider_seed){seed, seed_len}, cid, owner, wallet_number, secret) != PROVIDER_DONE)
         return PROVIDER_FAILED;
-    int on_ed25519 = owner == PROVIDER_WALLET && curve == ED25519;
+    int on_ed25519 = owner == PROVIDER_WALLET && curve == PRACTICE_ED25519;
     if ((on_ed25519 ? key_on_ed25519 : key_on_secp256k1)(secret, &made) != PROVIDER_DONE)
         return PROVIDER_FAILED;
     memcpy(key, made.bytes, made.length);
@@ -209,35 +208,40 @@ static size_t read_question(const uint8_t *bytes, size_t length, question *asked
 
 static int well_formed(const question *asked)
 {
-    if (asked->curve != SECP256K1 && asked->curve != ED25519)
+    if (asked->curve != PRACTICE_SECP256K1 && asked->curve != PRACTICE_ED25519)
         return 0;
     switch (asked->kind) {
-    case MAKE_KEY: return asked->length == 0;
-    case SIGN_HASH: return asked->length == 32;
-    case HASH_AND_SIGN:
-    case CARD_SIGNS: return 1;
-    case ISSUER_SIGNED: return asked->length >= PROVIDER_SIGNATURE;
+    case PRACTICE_MAKE_KEY: return asked->length == 0;
+    case PRACTICE_SIGN_HASH: return asked->length == 32;
+    case PRACTICE_HASH_AND_SIGN:
+    case PRACTICE_CARD_SIGNS: return 1;
+    case PRACTICE_ISSUER_SIGNED: return asked->length >= PROVIDER_SIGNATURE;
     default: return 0;
     }
 }
 
 static provider_owner owner_of(const question *asked)
 {
-    return asked->kind == CARD_SIGNS ? PROVIDER_CARD : asked->kind == ISSUER_SIGNED ? PROVIDER_ISSUER : PROVIDER_WALLET;
+    switch (asked->kind) {
+    case PRACTICE_CARD_SIGNS: return PROVIDER_CARD;
+    case PRACTICE_ISSUER_SIGNED: return PROVIDER_ISSUER;
+    default: return PROVIDER_WALLET;
+    }
 }
 
 /* The answer to a well-formed question under its secret. Kinds 4 and 5 are on secp256k1 whatever the curve of the wallet. */
 static provider_result reply(const question *asked, const uint8_t *secret, answer *said)
 {
-    int on_ed25519 = asked->curve == ED25519;
-    said->length = asked->kind == ISSUER_SIGNED ? 1 : PROVIDER_SIGNATURE;
+    int on_ed25519 = asked->curve == PRACTICE_ED25519;
+    said->length = asked->kind == PRACTICE_ISSUER_SIGNED ? 1 : PROVIDER_SIGNATURE;
     switch (asked->kind) {
-    case MAKE_KEY: return (on_ed25519 ? key_on_ed25519 : key_on_secp256k1)(secret, said);
-    case SIGN_HASH:
+    case PRACTICE_MAKE_KEY: return (on_ed25519 ? key_on_ed25519 : key_on_secp256k1)(secret, said);
+    case PRACTICE_SIGN_HASH:
         return on_ed25519 ? sign_on_ed25519(secret, asked->message, asked->length, said->bytes)
                           : sign_on_secp256k1(secret, asked->message, said->bytes);
-    case HASH_AND_SIGN: return (on_ed25519 ? sha512_and_sign : sha256_and_sign)(secret, asked->message, asked->length, said->bytes);
-    case CARD_SIGNS: return sha256_and_sign(secret, asked->message, asked->length, said->bytes);
+    case PRACTICE_HASH_AND_SIGN:
+        return (on_ed25519 ? sha512_and_sign : sha256_and_sign)(secret, asked->message, asked->length, said->bytes);
+    case PRACTICE_CARD_SIGNS: return sha256_and_sign(secret, asked->message, asked->length, said->bytes);
     default: return issuer_signed(secret, asked, said);
     }
 }

@@ -8,6 +8,10 @@
 #include <stddef.h>
 #include <stdint.h>
 
+#ifdef __cplusplus
+extern "C" {
+#endif
+
 #define PROVIDER_CID 8
 #define PROVIDER_SIGNATURE 64
 #define PROVIDER_KEY 65
@@ -49,5 +53,9 @@ provider_result provider_draw(const uint8_t *seed, size_t seed_len, uint32_t tap
 
 /* SHA-256, as the manual hashes a code before it is sent. */
 provider_result provider_sha256(const uint8_t *message, size_t message_len, uint8_t hash[32]);
+
+#ifdef __cplusplus
+}
+#endif
 
 #endif

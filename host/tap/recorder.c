@@ -51,7 +51,7 @@ complaint recorder_is_at(const recorder *to, const uint8_t *image)
 {
     if (same_image(image, to->so_far.image))
         return NULL;
-    image_value own = image_get(to->so_far.image, IMAGE_CID), other = image_get(image, IMAGE_CID);
+    image_value own = image_get(to->so_far.image, PRACTICE_VIEW_CID), other = image_get(image, PRACTICE_VIEW_CID);
     if (memcmp(own.bytes, other.bytes, own.length) != 0)
         return complain("%s: is the recording of another card", to->path);
     return complain("%s: at its end stands another state of the card, which was tapped outside of it", to->path);

@@ -171,8 +171,10 @@ complaint send_requests(const settings *set, const char *path, size_t count, cha
 
 static complaint record_card(desk *d, const char *file, size_t count, char **arguments)
 {
-    static recorder to;
-    complaint wrong = recorder_open(&to, file);
+    static recorder to = {.file = -1};
+    complaint wrong = about(d, card_read(d->path, d->c.image));
+    if (!wrong)
+        wrong = recorder_open(&to, file);
     if (!wrong && !(wrong = open_card(d))) {
         wrong = recorder_go_on(&to, &d->c);
         close_card(d);

@@ -72,7 +72,7 @@ static complaint show_card(const char *path)
 {
     static uint8_t image[PRACTICE_IMAGE_ROOM];
     complaint wrong = about(path, card_read(path, image));
-    for (image_name name = 0; !wrong && name < IMAGE_VALUES; name++) {
+    for (practice_view_name name = 0; !wrong && name < PRACTICE_VIEW_VALUES; name++) {
         image_value value = image_get(image, name);
         printf("%-26s", value.name);
         value_print(stdout, value.form, value.bytes, value.length, 26);
@@ -84,7 +84,7 @@ static complaint show_key(const char *name, seed keys, const uint8_t *image, pro
 {
     uint8_t key[PROVIDER_KEY];
     size_t length;
-    if (provider_public_key(keys.bytes, keys.length, image_get(image, IMAGE_CID).bytes, owner, 0, 1, key, &length) !=
+    if (provider_public_key(keys.bytes, keys.length, image_get(image, PRACTICE_VIEW_CID).bytes, owner, 0, 1, key, &length) !=
         PROVIDER_DONE)
         return complain("the provider made no key");
     printf("%-26s", name);

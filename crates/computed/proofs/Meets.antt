@@ -19,7 +19,7 @@ use Rattle.practice.proofs.practice_settle as settle
 use Rattle.practice.proofs.practice_settle.Met as settle-met
 use Rattle.practice.proofs.practice_settle.Symbol as settle-code
 
-computes-model : Computes model
+pub computes-model : Computes model
 computes-model = record { asks = λ M 𝓤 H 𝓜 𝓖 𝓡. ask-met.met 𝓤 H 𝓜 𝓖 𝓡; settles = λ M 𝓤 H 𝓜 𝓖 𝓡. settle-met.met 𝓤 H 𝓜 𝓖 𝓡 }
 
 -- every card that meets demand 2 is what the code computes

@@ -2,9 +2,9 @@
 use Prim.Native.Nat.{ℕ, _≤_}
 use native.Mathlib.Omega.{arith}
 use mathlib.Core.Path.{_≡_, refl, sym, ap, _∙_, subst}
-use mathlib.Core.List.{List, [], _∷_}
+use mathlib.Core.List.{List, [], _∷_, _++_}
 use mathlib.Core.Bool.{Bool, true, false, cond}
-use lib.ListN.{length, drop}
+use lib.ListN.{length, take, drop}
 use lib.Seq.{take-at}
 use lib.Dec.{leb, eqb}
 use borrow.Author.Tests.{le-leb}
@@ -50,15 +50,22 @@ unfolding lent
 read-response s c out nxt true e h = rw e (take-at (s .response) (drop (length (s .response)) out) (length (s .response)) refl)
 read-response s c out nxt false e h = rw (e, e) (sym (h refl))
 
+-- the image hangs on the number and the card left
+pub image-lent :
+    (m : List ℕ) (s : Said) (c : Card) (out nxt : List ℕ)
+    → image m (lent s c out nxt) ≡ cond (eqb (s .number) 0) (take imageSize (encode c ++ drop imageSize nxt)) m
+unfolding lent
+image-lent m s c out nxt = go (eqb (s .number) 0) refl
+  where
+    go : (b : Bool) → eqb (s .number) 0 ≡ b → image m (lent s c out nxt) ≡ cond b (take imageSize (encode c ++ drop imageSize nxt)) m
+    go true e = rw e refl
+    go false e = rw (e, e) refl
+
 read-image :
     (m : List ℕ) (s : Said) (c : Card) (out nxt : List ℕ) → length (encode c) ≡ imageSize
     → image m (lent s c out nxt) ≡ cond (eqb (s .number) 0) (encode c) m
-unfolding lent
-read-image m s c out nxt h = go (eqb (s .number) 0) refl
-  where
-    go : (b : Bool) → eqb (s .number) 0 ≡ b → image m (lent s c out nxt) ≡ cond b (encode c) m
-    go true e = rw e (take-at (encode c) (drop imageSize nxt) imageSize h)
-    go false e = rw (e, e) refl
+read-image m s c out nxt h =
+    image-lent m s c out nxt ∙ ap (λ z. cond (eqb (s .number) 0) z m) (take-at (encode c) (drop imageSize nxt) imageSize h)
 
 -- what the manual says and leaves at a call, and in its buffers
 abbrev pub saidAt : State → Call → Said

@@ -28,7 +28,7 @@ use Rattle.story.specs.Buffers.{image}
 use Rattle.history.specs.Demands.{imageBy}
 use Rattle.history.specs.Wrong.{judgedBy, asksBy, saysBy, leavesBy, but, withFieldsOut, boasting, proud}
 use Rattle.history.proofs.Taps.{by-checks, all, words}
-use Rattle.history.proofs.Images.{model}
+use Rattle.history.proofs.Images.{model, image-lent}
 use Rattle.history.proofs.Rejected.{honest-accepted}
 
 -- its rows, and a row without what it tells
@@ -127,17 +127,6 @@ stages P u true true true e = e
 stages P u true true false e = refl
 stages P u true false c e = refl
 stages P u false b c e = refl
-
--- the image of what is lent hangs on the number and the card left
-image-lent :
-    (m : List ℕ) (z : Said) (c : Card) (out nxt : List ℕ)
-    → image m (lent z c out nxt) ≡ cond (eqb (z .number) 0) (take imageSize (encode c ++ drop imageSize nxt)) m
-unfolding lent
-image-lent m z c out nxt = go (eqb (z .number) 0) refl
-  where
-    go : (b : Bool) → eqb (z .number) 0 ≡ b → image m (lent z c out nxt) ≡ cond b (take imageSize (encode c ++ drop imageSize nxt)) m
-    go true e = rw e refl
-    go false e = rw (e, e) refl
 
 module _ (s : State) (i : Call) where
   abbrev c0 : Card

@@ -5,11 +5,11 @@ use native.Mathlib.Decide.{decLt}
 use mathlib.Core.Path.{_≡_, refl, sym, ap, ap₂, _∙_}
 use mathlib.Core.List.{List, [], _∷_}
 use mathlib.Core.Bool.{Bool, true, false, cond, _&&_}
-use lib.ListN.{length, getD}
-use lib.Dec.{ltb, eqb}
-use borrow.Author.Tests.{lt-ltb, le-ltb, ltb-true, eq-eqb, eqb-true}
+use lib.ListN.{length}
+use lib.Dec.{ltb}
+use borrow.Author.Tests.{lt-ltb, le-ltb, ltb-true}
 use Rattle.wire.specs.Wire.{alike, Bytes}
-use Rattle.wire.proofs.Laws.{both-true}
+use Rattle.wire.proofs.Laws.{both-true, alike-self, alike-same}
 use Rattle.text.specs.Text.{allOf, hexValue, isHexDigit, isHex, pairValue, unhex, hexDigit, hexOf}
 use Rattle.text.proofs.Laws.{value-digit, value-letter, value-below, value-between, value-above, unhex-hexOf}
 
@@ -55,23 +55,10 @@ hexOf-unhex (a ∷ b ∷ s) h e =
     ap₂ _∷_ (ap hexDigit i ∙ digit-of-value a u)
     (ap₂ _∷_ (ap hexDigit j ∙ digit-of-value b v) (hexOf-unhex s (y .1) (omega arith)))
 
--- lists that are alike are one
-alike-same : (a b : List ℕ) → alike a b ≡ true → a ≡ b
-unfolding alike
-alike-same [] [] e = refl
-alike-same [] (y ∷ b) e = let z : _≡_ {A = ℕ} 0 1 = cc in absurd (omega arith)
-alike-same (x ∷ a) [] e = let z : _≡_ {A = ℕ} 0 1 = cc in absurd (omega arith)
-alike-same (x ∷ a) (y ∷ b) e = let z = both-true (eqb x y) (alike a b) e in ap₂ _∷_ (eqb-true x y (z .0)) (alike-same a b (z .1))
-
-alike-refl : (a : List ℕ) → alike a a ≡ true
-unfolding alike
-alike-refl [] = refl
-alike-refl (x ∷ a) = rw (eq-eqb x x refl) (alike-refl a)
-
 -- an expected response e in capital hex, and the bytes r of the response
 module _ (e r : List ℕ) (h : isHex e ≡ true) (l : length e % 2 ≡ 0) where
   pub same-bytes : Bytes r → alike e (hexOf r) ≡ true → unhex e ≡ r
   same-bytes b s = ap unhex (alike-same e (hexOf r) s) ∙ unhex-hexOf r b
 
   pub bytes-same : unhex e ≡ r → alike e (hexOf r) ≡ true
-  bytes-same s = ap (λ m. alike m (hexOf r)) (sym (hexOf-unhex e h l) ∙ ap hexOf s) ∙ alike-refl (hexOf r)
+  bytes-same s = ap (λ m. alike m (hexOf r)) (sym (hexOf-unhex e h l) ∙ ap hexOf s) ∙ alike-self (hexOf r)
