@@ -8,7 +8,7 @@ import pathlib
 import platform
 import shutil
 
-from setuptools import setup
+from setuptools import Distribution, setup
 from setuptools.command.build_py import build_py
 from setuptools.errors import SetupError
 
@@ -36,19 +36,19 @@ class WithLibrary(build_py):
         self.copy_file(str(found), str(lib / found.name))
 
 
-class ForThisMachine(bdist_wheel):
-    """Any Python 3, but one kind of machine."""
+class ForOneMachine(Distribution):
+    def has_ext_modules(self):
+        return True
 
-    def finalize_options(self):
-        super().finalize_options()
-        self.root_is_pure = False
 
+class ForAnyPython(bdist_wheel):
     def get_tag(self):
         return "py3", "none", super().get_tag()[2]
 
 
 LEFT.mkdir(parents=True, exist_ok=True)
 setup(
-    cmdclass={"build_py": WithLibrary, "bdist_wheel": ForThisMachine},
+    distclass=ForOneMachine,
+    cmdclass={"build_py": WithLibrary, "bdist_wheel": ForAnyPython},
     options={"build": {"build_base": str(LEFT / "build")}, "egg_info": {"egg_base": str(LEFT)}},
 )
