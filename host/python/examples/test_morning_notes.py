@@ -33,21 +33,6 @@ def wallet(card):
     return card
 
 
-def write_note(card, text, counter):
-    data = text.encode()
-    return card.tap(write_issuer_data(card, data, card.provider.issue(card.cid, data, counter), counter))
-
-
-def test_a_note_with_a_counter_that_is_not_above_the_stored_one_is_refused(card):
-    assert write_note(card, "06:59 coolant topped up", 709).word == 0x9000
-    refused = write_note(card, "07:00 LOW OIL PRESSURE 0.8 bar", 700)
-    assert refused.name == "SW_INVALID_STATUS"
-    assert card.issuer_data == b"06:59 coolant topped up"
-    stored = card.tap(read_issuer_data(card)).number("Issuer_Data_Counter")
-    assert write_note(card, "07:00 LOW OIL PRESSURE 0.8 bar", stored + 1).ok
-    assert card.issuer_data == b"07:00 LOW OIL PRESSURE 0.8 bar"
-
-
 def test_five_hashes_cost_one_signature(wallet):
     signed = wallet.tap(sign(wallet, CHECKS))
     assert signed.word == 0x9000
@@ -68,3 +53,18 @@ def test_a_refusal_uses_nothing_up(wallet):
     refused = wallet.tap(sign(wallet, CHECKS, pin2=sha256("1234")))
     assert refused.refused and refused.name == "SW_INVALID_PARAMS"
     assert wallet.image == before
+
+
+def write_note(card, text, counter):
+    data = text.encode()
+    return card.tap(write_issuer_data(card, data, card.provider.issue(card.cid, data, counter), counter))
+
+
+def test_a_note_with_a_counter_that_is_not_above_the_stored_one_is_refused(card):
+    assert write_note(card, "06:59 coolant topped up", 709).word == 0x9000
+    refused = write_note(card, "07:00 LOW OIL PRESSURE 0.8 bar", 700)
+    assert refused.name == "SW_INVALID_STATUS"
+    assert card.issuer_data == b"06:59 coolant topped up"
+    stored = card.tap(read_issuer_data(card)).number("Issuer_Data_Counter")
+    assert write_note(card, "07:00 LOW OIL PRESSURE 0.8 bar", stored + 1).ok
+    assert card.issuer_data == b"07:00 LOW OIL PRESSURE 0.8 bar"
