@@ -1,12 +1,12 @@
 """What pyproject.toml cannot say: the wheel carries the proved library for one kind of machine, in the form that this kind can use.
 
-The file comes from host/build, or from the folder that MERELSTOF_LIB names. What setuptools leaves behind goes below target/.
+The file comes from host/build, or from the folder that MERELSTOF_LIB names.
 """
 
 import os
 import pathlib
 import platform
-import shutil
+import tempfile
 
 from setuptools import Distribution, setup
 from setuptools.command.build_py import build_py
@@ -19,14 +19,12 @@ except ImportError:  # before setuptools had it
 
 ROOT = pathlib.Path(__file__).resolve().parent.parent.parent
 LIB = pathlib.Path(os.environ.get("MERELSTOF_LIB") or ROOT / "target" / "host" / "lib")
-LEFT = ROOT / "target" / "python"
 # The library is x86-64: another machine cannot load it, and runs serve under an emulator.
 NAMES = ["libpractice.so"] if platform.machine() == "x86_64" else [".x86-64/serve", "serve"]
 
 
 class WithLibrary(build_py):
     def run(self):
-        shutil.rmtree(self.build_lib, ignore_errors=True)  # what an earlier build left would go into the wheel
         super().run()
         found = next((LIB / name for name in NAMES if (LIB / name).is_file()), None)
         if found is None:
@@ -46,9 +44,10 @@ class ForAnyPython(bdist_wheel):
         return "py3", "none", super().get_tag()[2]
 
 
-LEFT.mkdir(parents=True, exist_ok=True)
-setup(
-    distclass=ForOneMachine,
-    cmdclass={"build_py": WithLibrary, "bdist_wheel": ForAnyPython},
-    options={"build": {"build_base": str(LEFT / "build")}, "egg_info": {"egg_base": str(LEFT)}},
-)
+# What setuptools leaves behind would stand in the sources, and go into the next wheel.
+with tempfile.TemporaryDirectory() as left:
+    setup(
+        distclass=ForOneMachine,
+        cmdclass={"build_py": WithLibrary, "bdist_wheel": ForAnyPython},
+        options={"build": {"build_base": left}, "egg_info": {"egg_base": left}},
+    )
