@@ -3,6 +3,7 @@ before the name of each check. Needs the standard library alone, so that any Pyt
 
 import os
 import re
+import signal
 import sys
 import threading
 
@@ -212,13 +213,15 @@ def threads():
 
 
 def forked():
-    """A child goes on by itself, and the parent after it."""
+    """A child goes on by itself, and the parent after it. Where they wait for one another, an alarm ends both."""
     card = Card.from_sheet(SHEET, MadeUp())
     child = os.fork()
+    signal.alarm(30)
     if child == 0:
         os._exit(0 if card.tap(read_card(card)).ok and card.tap(create_wallet(card)).ok else 1)
     answers = [card.tap(read_card(card)).number("Status") for _ in range(20)]
     same(named("a process and its child"), (os.waitstatus_to_exitcode(os.waitpid(child, 0)[1]), answers), (0, [1] * 20))
+    signal.alarm(0)
 
 
 def served_again():
