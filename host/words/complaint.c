@@ -1,10 +1,11 @@
 /* The one line that a complaint is. */
 #include "complaint.h"
 
-#include <ctype.h>
 #include <stdarg.h>
 #include <stdio.h>
 #include <string.h>
+
+#include "text.h"
 
 complaint complain(const char *format, ...)
 {
@@ -14,9 +15,7 @@ complaint complain(const char *format, ...)
     va_start(arguments, format);
     vsnprintf(made, sizeof made, format, arguments);
     va_end(arguments);
-    for (char *at = made; *at; at++) /* an operand may hold a line feed, and one line is promised */
-        if (iscntrl((unsigned char)*at))
-            *at = '?';
+    text_tame(made); /* an operand may hold a line feed, and one line is promised */
     memcpy(line, made, sizeof line);
     return line;
 }

@@ -5,6 +5,7 @@
 
 #include "hex.h"
 #include "provider.h"
+#include "text.h"
 
 uint32_t value_number(const uint8_t *bytes, size_t length)
 {
@@ -14,18 +15,9 @@ uint32_t value_number(const uint8_t *bytes, size_t length)
     return number;
 }
 
-/* Blanks to tildes alone: what a card holds must not reach the terminal as an escape. */
-static int printable(const uint8_t *bytes, size_t length)
-{
-    for (size_t at = 0; at < length; at++)
-        if (bytes[at] < 0x20 || bytes[at] > 0x7E)
-            return 0;
-    return length > 0;
-}
-
 static void print_text(FILE *out, const uint8_t *bytes, size_t length)
 {
-    if (printable(bytes, length))
+    if (text_shows(bytes, length))
         fwrite(bytes, 1, length, out);
     else
         hex_print(out, bytes, length);
