@@ -11,6 +11,7 @@ typedef struct {
     seed keys;
     const char *pin1, *pin2, *cvc;
     int hex_only; /* print the response alone */
+    int json;     /* print each tap as an object */
 } settings;
 
 /* A recording's limits (Ask 4 of the paper on changes). */
