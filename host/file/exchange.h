@@ -1,4 +1,4 @@
-/* One tap: ask, answer, settle. */
+/* One tap in memory: ask, answer, settle. */
 #ifndef EXCHANGE_H
 #define EXCHANGE_H
 
@@ -11,6 +11,8 @@
 #include "seed.h"
 
 typedef struct {
+    uint8_t questions[PRACTICE_ROOM];
+    size_t questions_len;
     uint8_t answers[PROVIDER_ROOM];
     size_t answers_len;
     uint8_t response[PRACTICE_ROOM];
@@ -18,11 +20,15 @@ typedef struct {
     uint8_t next[PRACTICE_IMAGE_ROOM]; /* practice_image_length() bytes of it are the card after the tap */
 } exchange;
 
-/* Taps an image with a request under a draw, the provider's keys coming from the seed.
+/* Taps an image, which is a card, with a request under a draw, the provider's keys coming from the seed.
  *
- * A complaint means that there was no tap: the image is no card, or the provider could not answer. A refusal by a status word is a
- * response like any other. */
-complaint exchange_tap(const uint8_t *image, size_t image_len, const uint8_t *request, size_t request_len,
-                       const uint8_t draw[PRACTICE_DRAW], seed keys, exchange *tap);
+ * A complaint means that there was no tap: the provider could not answer. A refusal by a status word is a response like any other. */
+complaint exchange_tap(const uint8_t *image, const uint8_t *request, size_t length, const uint8_t draw[PRACTICE_DRAW], seed keys,
+                       exchange *tap);
+
+/* The same in two halves, for a caller who wants to know what is asked before it is answered. */
+complaint exchange_ask(const uint8_t *image, const uint8_t *request, size_t length, const uint8_t draw[PRACTICE_DRAW], exchange *tap);
+complaint exchange_settle(const uint8_t *image, const uint8_t *request, size_t length, const uint8_t draw[PRACTICE_DRAW], seed keys,
+                          exchange *tap);
 
 #endif

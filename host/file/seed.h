@@ -20,6 +20,10 @@ typedef struct {
 /* The seed that a user gave, or the practice seed where text is NULL. */
 seed seed_of(const char *text);
 
+/* The seed's fingerprint, as docs/KEYS.md makes it: capital hex and a NUL. */
+#define SEED_FINGERPRINT 64
+complaint seed_fingerprint(seed of, char text[SEED_FINGERPRINT + 1]);
+
 /* The draw of a tap, numbered from 1: the seed's own, or by chance. */
 complaint seed_draw(seed from, uint32_t tap, uint8_t draw[PRACTICE_DRAW]);
 

@@ -1,7 +1,7 @@
 /* What the library says of a sheet, in words. */
 #include "sheet.h"
 
-static const char *const lines[] = {
+static const char *const lines[SHEET_LINES] = {
     "cid, a tab and 16 hex digits in capitals",
     "pin1, a tab and 64 hex digits in capitals",
     "pin2, a tab and 64 hex digits in capitals",
@@ -16,14 +16,13 @@ static const char *const lines[] = {
     "replay, a tab and 0 or 1",
     "active, a tab and 0 or 1",
 };
-#define LINES (sizeof lines / sizeof *lines)
 
 complaint sheet_card(const uint8_t *sheet, size_t length, uint8_t image[PRACTICE_IMAGE_ROOM])
 {
     uint32_t line = practice_personalise(sheet, length, image, PRACTICE_IMAGE_ROOM);
     if (line == 0)
         return NULL;
-    if (line > LINES)
-        return complain("line %u is bad: nothing may follow line %zu", line, LINES);
+    if (line > SHEET_LINES)
+        return complain("line %u is bad: nothing may follow line %d", line, SHEET_LINES);
     return complain("line %u is bad: it has to be %s, ended by a line feed", line, lines[line - 1]);
 }

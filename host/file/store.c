@@ -4,8 +4,6 @@
 
 #include <errno.h>
 #include <fcntl.h>
-#include <libgen.h>
-#include <stdio.h>
 #include <stdlib.h>
 #include <string.h>
 #include <sys/file.h>
@@ -13,15 +11,18 @@
 #include <time.h>
 #include <unistd.h>
 
-#define TRIES 1000
+#include "whole.h"
+
 #define PAUSE_MS 10
+
+int store_patience = 10;
 
 static complaint because(const char *what)
 {
     return complain("%s: %s", what, strerror(errno));
 }
 
-static char *beside(const char *path, const char *ending)
+char *store_beside(const char *path, const char *ending)
 {
     char *name = malloc(strlen(path) + strlen(ending) + 1);
     if (name)
@@ -32,39 +33,76 @@ static char *beside(const char *path, const char *ending)
 /* ---- the lock ---- */
 
 /* Another process may be in the middle of its tap, which takes milliseconds: so some seconds are waited before giving up. */
-static int lock_in_time(int lock)
+complaint store_lock(int file)
 {
     const struct timespec pause = {0, PAUSE_MS * 1000000L};
-    for (int tries = 0; tries < TRIES; tries++) {
-        if (flock(lock, LOCK_EX | LOCK_NB) == 0)
-            return 1;
+    for (int tries = 0; tries < store_patience * 1000 / PAUSE_MS; tries++) {
+        if (flock(file, LOCK_EX | LOCK_NB) == 0)
+            return NULL;
         nanosleep(&pause, NULL);
     }
-    return 0;
+    return complain("is in use by another process");
+}
+
+/* Opened for reading, which is enough to lock, so that all who may write the card can. One that is there is not opened with O_CREAT:
+ * in a folder as /tmp Linux then refuses another user's file. */
+static int open_lock(const char *name)
+{
+    for (;;) {
+        int lock = open(name, O_RDONLY | O_NOFOLLOW | O_NONBLOCK | O_CLOEXEC);
+        if (lock >= 0 || errno != ENOENT)
+            return lock;
+        lock = open(name, O_RDONLY | O_CREAT | O_EXCL | O_CLOEXEC, 0644);
+        if (lock >= 0)
+            fchmod(lock, 0644); /* whatever the user's umask: who may write the card may not be he */
+        if (lock >= 0 || errno != EEXIST)
+            return lock;
+    }
 }
 
 static complaint take_lock(store *card)
 {
-    char *name = beside(card->path, ".lock");
-    card->lock = name ? open(name, O_RDWR | O_CREAT | O_CLOEXEC, 0666) : -1;
+    char *name = store_beside(card->path, ".lock");
+    card->lock = name ? open_lock(name) : -1;
     free(name);
     if (card->lock < 0)
         return because("cannot make the lock file beside it");
-    if (!lock_in_time(card->lock)) {
+    complaint wrong = store_lock(card->lock);
+    if (wrong)
         close(card->lock);
-        return complain("is in use by another process");
-    }
-    return NULL;
+    return wrong;
+}
+
+static complaint is_not_there(const char *path)
+{
+    struct stat there;
+    return lstat(path, &there) == 0 ? complain("exists already, and is left as it is") : NULL;
+}
+
+static complaint open_as(store *card, char *path)
+{
+    card->path = path;
+    complaint wrong = take_lock(card);
+    if (wrong)
+        free(path);
+    return wrong;
 }
 
 complaint store_open(store *card, const char *path)
 {
-    card->path = realpath(path, NULL);
-    if (!card->path)
-        return because("cannot be opened");
-    complaint wrong = take_lock(card);
-    if (wrong)
-        free(card->path);
+    char *real = realpath(path, NULL);
+    return real ? open_as(card, real) : because("cannot be opened");
+}
+
+/* What is there already gets no lock beside it; and another process may make it while the lock is waited for. */
+complaint store_open_new(store *card, const char *path)
+{
+    complaint wrong = is_not_there(path);
+    char *copy = wrong ? NULL : strdup(path);
+    if (!wrong)
+        wrong = copy ? open_as(card, copy) : because("no memory");
+    if (!wrong && (wrong = is_not_there(path)))
+        store_close(card);
     return wrong;
 }
 
@@ -103,87 +141,45 @@ complaint store_read_file(const char *path, uint8_t *bytes, size_t room, size_t 
     return wrong;
 }
 
-complaint store_read(const store *card, uint8_t *image, size_t room, size_t *length)
+/* O_NONBLOCK: a pipe that nobody writes to would be waited for before it could be refused. */
+complaint store_open_plain(const char *path, int flags, int *file)
 {
-    return store_read_file(card->path, image, room, length);
+    struct stat found;
+    *file = open(path, flags | O_NONBLOCK | O_CLOEXEC);
+    if (*file < 0 && errno == EISDIR)
+        return complain("is no plain file");
+    if (*file < 0)
+        return because("cannot be opened");
+    if (fstat(*file, &found) == 0 && S_ISREG(found.st_mode))
+        return NULL;
+    close(*file);
+    return complain("is no plain file");
+}
+
+complaint store_read_plain(const char *path, uint8_t *bytes, size_t room, size_t *length)
+{
+    int file;
+    complaint wrong = store_open_plain(path, O_RDONLY, &file);
+    if (wrong)
+        return wrong;
+    wrong = read_all(file, bytes, room, length);
+    close(file);
+    return wrong;
 }
 
 /* ---- replacing ---- */
 
-static int write_all(int file, const uint8_t *bytes, size_t length)
-{
-    for (size_t done = 0; done < length;) {
-        ssize_t put = write(file, bytes + done, length - done);
-        if (put < 0 && errno != EINTR)
-            return 0;
-        done += put > 0 ? (size_t)put : 0;
-    }
-    return 1;
-}
-
-/* The new file has the old one's rights, or the usual ones where there was no old one. */
-static complaint write_new(const char *name, const char *old, const uint8_t *bytes, size_t length)
-{
-    struct stat before;
-    int file = open(name, O_WRONLY | O_CREAT | O_TRUNC | O_CLOEXEC, 0666);
-    if (file < 0)
-        return because("the new card cannot be written beside it");
-    int written = (stat(old, &before) != 0 || fchmod(file, before.st_mode & 07777) == 0) && write_all(file, bytes, length) &&
-                  fsync(file) == 0;
-    complaint wrong = written ? NULL : because("the new card cannot be written beside it");
-    if (close(file) != 0 && !wrong)
-        wrong = because("the new card cannot be written beside it");
-    return wrong;
-}
-
-/* A rename is on the disk once its folder is. */
-static complaint sync_folder(const char *path)
-{
-    char *copy = strdup(path);
-    int folder = copy ? open(dirname(copy), O_RDONLY | O_DIRECTORY | O_CLOEXEC) : -1;
-    complaint wrong = folder >= 0 && fsync(folder) == 0 ? NULL : because("its folder cannot be brought to the disk");
-    if (folder >= 0)
-        close(folder);
-    free(copy);
-    return wrong;
-}
-
-static complaint replace(const char *path, const uint8_t *bytes, size_t length)
-{
-    char *name = beside(path, ".new");
-    if (!name)
-        return because("no memory");
-    complaint wrong = write_new(name, path, bytes, length);
-    if (!wrong && rename(name, path) != 0)
-        wrong = because("cannot be replaced");
-    if (wrong)
-        unlink(name);
-    free(name);
-    return wrong ? wrong : sync_folder(path);
-}
-
 complaint store_replace(const store *card, const uint8_t *image, size_t length)
 {
-    return replace(card->path, image, length);
+    whole_remove_leftovers(card->path);
+    return whole_write(card->path, card->path, WHOLE_REPLACE, image, length);
 }
 
-complaint store_write_file(const char *path, const uint8_t *bytes, size_t length)
+complaint store_replace_beside(const store *card, const char *ending, const uint8_t *bytes, size_t length)
 {
-    struct stat there;
-    if (lstat(path, &there) == 0)
-        return complain("exists already, and is left as it is");
-    return replace(path, bytes, length);
-}
-
-complaint store_create(const char *path, const uint8_t *image, size_t length)
-{
-    store card = {strdup(path), -1};
-    complaint wrong = card.path ? take_lock(&card) : because("no memory");
-    if (wrong) {
-        free(card.path);
-        return wrong;
-    }
-    wrong = store_write_file(path, image, length);
-    store_close(&card);
-    return wrong;
+    char *name = store_beside(card->path, ending);
+    whole_remove_leftovers(card->path);
+    complaint wrong = name ? whole_write(name, card->path, WHOLE_REPLACE, bytes, length) : because("no memory");
+    free(name);
+    return wrong ? complain("its %s file: %s", ending + 1, wrong) : NULL;
 }

@@ -1,8 +1,7 @@
-/* The card file: exactly the image, replaced whole or not at all.
+/* The card file: exactly the image, replaced whole or not at all (whole.h).
  *
- * A new image is written to FILE.new beside it, brought to the disk, and given the card's name in one step; a lost power or a killed
- * process leaves the card as it was before the tap or as it is after it. FILE.lock is held meanwhile, so that no second process taps
- * the same card between reading and replacing. Both names stay beside the card; what they hold does not matter. */
+ * CARD.lock is held from reading to replacing, so that no second process taps the same card meanwhile. It stays beside the card, and has
+ * nothing in it. */
 #ifndef STORE_H
 #define STORE_H
 
@@ -16,21 +15,30 @@ typedef struct {
     int lock;
 } store;
 
-/* Waits up to ten seconds for the lock. After a complaint nothing is held. */
+/* How many seconds a lock is waited for; a program may say otherwise. */
+extern int store_patience;
+
+/* Waits for the lock. After a complaint nothing is held. */
 complaint store_open(store *card, const char *path);
+/* The same for a card file that is to be made: a complaint where there is one. */
+complaint store_open_new(store *card, const char *path);
 void store_close(store *card);
 
-/* Reads the file, which may be no card: image_is_card tells. */
-complaint store_read(const store *card, uint8_t *image, size_t room, size_t *length);
+/* The card, or CARD.ending beside it with the card's rights. */
 complaint store_replace(const store *card, const uint8_t *image, size_t length);
+complaint store_replace_beside(const store *card, const char *ending, const uint8_t *bytes, size_t length);
 
-/* A card file where there was none. */
-complaint store_create(const char *path, const uint8_t *image, size_t length);
+/* The name CARD.ending, to be freed. */
+char *store_beside(const char *path, const char *ending);
 
-/* Another file, as a recording, where there was none: whole or not at all, too. */
-complaint store_write_file(const char *path, const uint8_t *bytes, size_t length);
+/* Waits for the lock of an open file. */
+complaint store_lock(int file);
 
-/* The whole of a file. */
+/* The whole of a file, as a sheet; of a plain file, as a card: a pipe would keep its reader waiting. */
 complaint store_read_file(const char *path, uint8_t *bytes, size_t room, size_t *length);
+complaint store_read_plain(const char *path, uint8_t *bytes, size_t room, size_t *length);
+
+/* Opens a plain file that is there, with flags of open(). */
+complaint store_open_plain(const char *path, int flags, int *file);
 
 #endif

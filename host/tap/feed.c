@@ -3,79 +3,126 @@
 
 #include <string.h>
 
+#include "line.h"
 #include "requests.h"
 
-static size_t up_to_comma(size_t count, char *const *arguments)
+static size_t up_to_comma(const batch *in)
 {
     size_t length = 0;
-    while (length < count && strcmp(arguments[length], ",") != 0)
+    while (length < in->count && in->words[length])
         length++;
     return length;
 }
 
-static complaint next_of_arguments(feed *from, size_t *count, char ***words)
+size_t batch_next(batch *left, char ***words)
 {
-    while (from->count > 0 && strcmp(from->arguments[0], ",") == 0) {
-        from->arguments++;
-        from->count--;
+    while (left->count > 0 && !left->words[0]) {
+        left->words++;
+        left->count--;
     }
-    *words = from->arguments;
-    *count = from->count > 0 && request_is_word(from->arguments[0]) ? up_to_comma(from->count, from->arguments) : from->count > 0;
-    from->arguments += *count;
-    from->count -= *count;
-    return NULL;
+    *words = left->words;
+    size_t taken = left->count > 0 && request_is_word(left->words[0]) ? up_to_comma(left) : left->count > 0;
+    left->words += taken;
+    left->count -= taken;
+    return taken;
 }
 
+/* ---- lines ---- */
+
 /* Cuts the text into words where it stands. */
-static complaint cut(feed *from, size_t *count)
+static complaint cut(feed *from, batch *next)
 {
     char *at = from->text;
-    for (*count = 0; at += strspn(at, " \t"), *at; (*count)++) {
+    for (; at += strspn(at, " \t"), *at; next->count++) {
         int quoted = *at == '"';
-        if (*count == FEED_WORDS)
+        if (next->count == FEED_WORDS)
             return complain("more than %d words", FEED_WORDS);
         at += quoted;
-        from->words[*count] = at;
+        char *word = at;
         at += strcspn(at, quoted ? "\"" : " \t");
         if (quoted && !*at)
             return complain("a quote is not closed");
         if (*at)
             *at++ = 0;
+        next->words[next->count] = quoted || strcmp(word, ",") != 0 ? word : NULL;
     }
     return NULL;
 }
 
-/* The first word decides: only where it is none of the words is the line one piece of hex, blanks and all. */
-static complaint words_of_line(feed *from, size_t *count)
+/* Words that were cut one after the other from a text, as one again with blanks between. */
+static void join(char **words, size_t count)
 {
-    char whole[FEED_LINE];
-    strcpy(whole, from->text);
-    complaint wrong = cut(from, count);
-    if (!wrong && *count > 1 && !request_is_word(from->words[0])) {
-        strcpy(from->text, whole);
-        from->words[0] = from->text;
-        *count = 1;
-    }
-    return wrong;
+    for (size_t at = 1; at < count; at++)
+        for (char *gap = words[at - 1] + strlen(words[at - 1]); gap < words[at]; gap++)
+            *gap = ' ';
 }
 
-static complaint next_of_lines(feed *from, size_t *count, char ***words)
+/* The first word decides: only where it is none of the words is all up to a comma one piece of hex, blanks and all. */
+static void join_hex(batch *next)
 {
-    *words = from->words;
-    *count = 0;
-    while (fgets(from->text, sizeof from->text, from->lines)) {
+    batch left = *next;
+    size_t kept = 0;
+    while (left.count > 0) {
+        size_t taken = up_to_comma(&left);
+        int is_hex = taken > 1 && !request_is_word(left.words[0]);
+        if (is_hex)
+            join(left.words, taken);
+        for (size_t at = 0; at < taken; at++)
+            if (at == 0 || !is_hex)
+                next->words[kept++] = left.words[at];
+        if (taken < left.count)
+            next->words[kept++] = NULL;
+        left.words += taken + (taken < left.count);
+        left.count -= taken + (taken < left.count);
+    }
+    next->count = kept;
+}
+
+static complaint check_line(feed *from, line_kind read, size_t length)
+{
+    if (length > 0 && from->text[length - 1] == '\r' && read != LINE_LONG)
+        from->text[--length] = 0;
+    if (read == LINE_LONG || length > FEED_LINE)
+        return complain("more than %d characters", FEED_LINE);
+    if (strlen(from->text) != length)
+        return complain("there is a NUL in it");
+    return strchr(from->text, '\r') ? complain("there is a carriage return inside it") : NULL;
+}
+
+static complaint next_of_lines(feed *from, batch *next)
+{
+    size_t length;
+    for (line_kind read; (read = line_read(from->lines, from->text, sizeof from->text, &length)) != LINE_NONE;) {
         from->line++;
-        if (strlen(from->text) == sizeof from->text - 1)
-            return complain("more than %zu characters", sizeof from->text - 2);
-        from->text[strcspn(from->text, "\r\n")] = 0;
-        if (from->text[0] == '#' || from->text[strspn(from->text, " \t")] == 0)
+        if (ferror(from->lines))
+            break;
+        complaint wrong = check_line(from, read, length);
+        if (!wrong && (from->text[0] == '#' || from->text[strspn(from->text, " \t")] == 0))
             continue;
-        return words_of_line(from, count);
+        if (!wrong)
+            wrong = cut(from, next);
+        if (!wrong)
+            join_hex(next);
+        return wrong ? complain("line %u of standard input: %s", from->line, wrong) : NULL;
     }
     return ferror(from->lines) ? complain("standard input cannot be read") : NULL;
 }
 
-complaint feed_next(feed *from, size_t *count, char ***words)
+/* ---- both ---- */
+
+void feed_open(feed *from, size_t count, char **arguments, FILE *lines)
 {
-    return from->lines ? next_of_lines(from, count, words) : next_of_arguments(from, count, words);
+    from->arguments = (batch){count, arguments};
+    from->lines = count == 0 ? lines : NULL;
+    from->line = 0;
+    for (size_t at = 0; at < count; at++)
+        if (strcmp(arguments[at], ",") == 0)
+            arguments[at] = NULL;
+}
+
+complaint feed_next(feed *from, batch *next)
+{
+    *next = from->lines ? (batch){0, from->words} : from->arguments;
+    from->arguments.count = 0;
+    return from->lines ? next_of_lines(from, next) : NULL;
 }

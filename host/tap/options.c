@@ -12,7 +12,7 @@ typedef struct {
 static const row rows[] = {
     {'s', "seed", "TEXT",
      "keys and draws from this seed: the same taps are the same to the byte. Without it the keys come from\n"
-     "                the seed '" SEED_PRACTICE "' and the draws from chance"},
+     "                the seed '" SEED_PRACTICE "' and the draws from chance. A card keeps to the seed of its first key"},
     {'1', "pin1", "TEXT", "send this PIN1, hashed by SHA-256, instead of the card's own"},
     {'2', "pin2", "TEXT", "the same for PIN2"},
     {'c', "cvc", "TEXT", "send this CVC instead of the card's own"},

@@ -14,15 +14,11 @@ typedef struct {
     int json;     /* print each tap as an object */
 } settings;
 
-/* A recording's limits (Ask 4 of the paper on changes). */
-#define RECORDING_LINE 8192
-#define RECORDING_TAPS 10000
-
 /* Sends each request to the card file, and prints each response. With no argument the requests are the lines of standard input. */
 complaint send_requests(const settings *set, const char *card, size_t count, char **arguments);
 
-/* From a sheet: a whole recording, of the sheet and of each tap on the fresh card, in a file that was not there.
- * From a card file: each request is sent to it, and its tap's line is put at the end of the file. */
+/* From a sheet: a recording of each tap on the fresh card, in a file that was not there.
+ * From a card file: each request is sent to it, and its tap's line is put at the end of its recording. */
 complaint record_requests(const settings *set, const char *from, const char *file, size_t count, char **arguments);
 
 #endif

@@ -3,6 +3,8 @@
 #include <stdlib.h>
 #include <string.h>
 
+#include "bound.h"
+#include "card.h"
 #include "changes.h"
 #include "explaining.h"
 #include "image.h"
@@ -35,7 +37,7 @@ static complaint about(const char *path, complaint wrong)
     return wrong ? complain("%s: %s", path, wrong) : NULL;
 }
 
-static complaint new_card(const char *sheet_path, const char *card_path)
+static complaint new_card(const settings *set, const char *sheet_path, const char *card_path)
 {
     static uint8_t sheet[SHEET_ROOM], image[PRACTICE_IMAGE_ROOM];
     size_t length;
@@ -44,21 +46,13 @@ static complaint new_card(const char *sheet_path, const char *card_path)
         wrong = sheet_card(sheet, length, image);
     if (wrong)
         return about(sheet_path, wrong);
-    return about(card_path, store_create(card_path, image, practice_image_length()));
-}
-
-/* Reading needs no lock: the file is one whole card at every moment. */
-static complaint read_card(const char *path, uint8_t image[PRACTICE_IMAGE_ROOM])
-{
-    size_t length;
-    complaint wrong = store_read_file(path, image, PRACTICE_IMAGE_ROOM, &length);
-    return about(path, wrong ? wrong : image_is_card(image, length));
+    return about(card_path, card_create(card_path, image, set->keys));
 }
 
 static complaint show_card(const settings *set, const char *path)
 {
     static uint8_t image[PRACTICE_IMAGE_ROOM];
-    complaint wrong = read_card(path, image);
+    complaint wrong = about(path, card_read(path, image));
     if (!wrong)
         (set->json ? values_json : values_print)(stdout, image);
     return wrong;
@@ -79,9 +73,12 @@ static complaint show_key(const char *name, seed keys, const uint8_t *image, pro
 static complaint show_keys(const settings *set, const char *path)
 {
     static uint8_t image[PRACTICE_IMAGE_ROOM];
-    complaint wrong = read_card(path, image);
+    complaint wrong = card_read(path, image);
     if (!wrong)
-        wrong = show_key("Card_PublicKey", set->keys, image, PROVIDER_CARD);
+        wrong = bound_fits(path, image, set->keys);
+    if (wrong)
+        return about(path, wrong);
+    wrong = show_key("Card_PublicKey", set->keys, image, PROVIDER_CARD);
     return wrong ? wrong : show_key("Issuer_Data_PublicKey", set->keys, image, PROVIDER_ISSUER);
 }
 
@@ -91,8 +88,8 @@ typedef complaint (*action)(const options *given, size_t count, char **operands)
 
 static complaint run_new(const options *given, size_t count, char **operands)
 {
-    (void)given, (void)count;
-    return new_card(operands[0], operands[1]);
+    (void)count;
+    return new_card(&given->set, operands[0], operands[1]);
 }
 
 static complaint run_show(const options *given, size_t count, char **operands)
@@ -143,7 +140,7 @@ static const command commands[] = {
     {"show", "CARD", "the card's values", OPTION_JSON, 1, 1, run_show},
     {"keys", "CARD", "the public keys of the card and of its issuer", OPTION_SEED, 1, 1, run_keys},
     {"record", "SHEET FILE REQUEST..", "a recording from a fresh card: the sheet, then a line for each tap", SENT, 2, MANY, run_record},
-    {"record", "CARD FILE REQUEST..", "as send, and put each tap's line at the end of FILE", SENT, 2, MANY, run_record},
+    {"record", "CARD FILE REQUEST..", "as send, and put each tap's line at the end of FILE, the card's recording", SENT, 2, MANY, run_record},
     {"explain", "MESSAGE..", "requests or responses in hex, taken apart; no card is needed", OPTION_KINDS, 1, MANY, run_explain},
     {"told", "RECORDING", "what the player printed, on standard input, told in words; ./play --words does it", OPTION_JSON, 1, 1, run_told},
 };

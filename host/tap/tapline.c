@@ -1,4 +1,4 @@
-/* Lines of recordings, and why one is bad. The proved player only says that it is: these are its rules (README, "Lessons"), in words. */
+/* Lines of taps, and why one is bad. The proved player only says that it is: these are its rules (README, "Lessons"), in words. */
 #include "tapline.h"
 
 #include <ctype.h>
@@ -10,33 +10,18 @@ enum { REQUEST, DRAW, ANSWERS, EXPECTED, FIELDS };
 
 static const char *const names[FIELDS] = {"request", "draw", "answers", "expected response"};
 
-/* ---- lines ---- */
-
-int line_read(FILE *from, line *read)
+complaint tapline_fault(const recording_line *from)
 {
-    int c = EOF;
-    read->length = 0;
-    while (read->length < sizeof read->text - 1 && (c = getc(from)) != EOF && c != '\n')
-        read->text[read->length++] = (char)c;
-    read->text[read->length] = 0;
-    read->is_ended = c == '\n';
-    return read->length > 0 || read->is_ended;
-}
-
-complaint line_fault(const line *from)
-{
-    if (from->length > RECORDING_LINE)
+    if (from->kind == LINE_LONG)
         return complain("it has more than %d bytes", RECORDING_LINE);
     if (from->length >= 3 && memcmp(from->text, "\xEF\xBB\xBF", 3) == 0)
         return complain("a byte order mark stands before it");
-    if (!from->is_ended)
+    if (from->kind == LINE_TORN)
         return complain("the file ends in it, before its line feed");
     if (from->length > 0 && from->text[from->length - 1] == '\r')
         return complain("it ends with CR LF, and has to end with a line feed alone");
     return NULL;
 }
-
-/* ---- the four fields ---- */
 
 typedef struct {
     const char *text;
@@ -44,7 +29,7 @@ typedef struct {
 } part;
 
 /* The parts between tabs; how many there are, of which the first four are kept. */
-static size_t cut(const line *from, part parts[FIELDS])
+static size_t cut(const recording_line *from, part parts[FIELDS])
 {
     size_t count = 0;
     const char *at = from->text, *end = from->text + from->length;
@@ -59,7 +44,7 @@ static size_t cut(const line *from, part parts[FIELDS])
     }
 }
 
-static complaint no_digit(const line *from, const char *at)
+static complaint no_digit(const recording_line *from, const char *at)
 {
     size_t column = (size_t)(at - from->text) + 1;
     unsigned char c = (unsigned char)*at;
@@ -70,7 +55,7 @@ static complaint no_digit(const line *from, const char *at)
     return complain("the byte %02X at column %zu is no hex digit", c, column);
 }
 
-static complaint digits_fault(const line *from, int which, part p)
+static complaint digits_fault(const recording_line *from, int which, part p)
 {
     for (size_t at = 0; at < p.length; at++)
         if (!isdigit((unsigned char)p.text[at]) && (p.text[at] < 'A' || p.text[at] > 'F'))
@@ -96,10 +81,10 @@ static size_t bytes_of(part p, uint8_t *bytes, size_t room)
     return length;
 }
 
-complaint tapline_read(const line *from, tapline *read)
+complaint tapline_read(const recording_line *from, tapline *read)
 {
     part parts[FIELDS];
-    complaint wrong = line_fault(from);
+    complaint wrong = tapline_fault(from);
     if (wrong)
         return wrong;
     size_t count = cut(from, parts);

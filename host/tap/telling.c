@@ -13,7 +13,6 @@
 #include "tapline.h"
 #include "words.h"
 
-#define SHEET_LINES 13
 #define PRINTED_ROOM 8192
 #define PARTS 4
 #define NO_RESPONSE "4"
@@ -32,25 +31,31 @@ typedef struct {
 /* ---- the sheet ---- */
 
 /* What sheet_card says the line should be, and what is wrong with it at sight. */
-static void note_bad_line(play *p, const uint8_t *sheet, size_t length, const line *lines)
+static void note_bad_line(play *p, const uint8_t *sheet, size_t length, const recording_line *lines)
 {
     const char *should = strstr(sheet_card(sheet, length, p->image), ": ");
     snprintf(p->why, sizeof p->why, "%s", should ? should + 2 : "");
-    complaint fault = p->bad_line <= p->lines ? line_fault(&lines[p->bad_line - 1]) : complain("the file ends before it");
+    complaint fault = p->bad_line <= p->lines ? tapline_fault(&lines[p->bad_line - 1]) : complain("the file ends before it");
     if (fault)
         snprintf(p->why + strlen(p->why), sizeof p->why - strlen(p->why), "; %s", fault);
 }
 
+static int next_line(play *p, recording_line *read)
+{
+    read->kind = line_read(p->recording, read->text, sizeof read->text, &read->length);
+    p->lines += read->kind != LINE_NONE;
+    return read->kind != LINE_NONE;
+}
+
 static void read_sheet(play *p)
 {
-    static uint8_t sheet[SHEET_LINES * sizeof(line)];
-    static line lines[SHEET_LINES];
+    static uint8_t sheet[SHEET_LINES * sizeof(recording_line)];
+    static recording_line lines[SHEET_LINES];
     size_t length = 0;
-    while (p->lines < SHEET_LINES && line_read(p->recording, &lines[p->lines])) {
-        const line *one = &lines[p->lines++];
+    for (recording_line *one = lines; p->lines < SHEET_LINES && next_line(p, one); one++) {
         memcpy(sheet + length, one->text, one->length);
         length += one->length;
-        if (one->is_ended)
+        if (one->kind == LINE_WHOLE)
             sheet[length++] = '\n';
     }
     p->bad_line = practice_personalise(sheet, length, p->image, sizeof p->image);
@@ -62,9 +67,9 @@ static void read_sheet(play *p)
 
 static complaint why_line_is_bad(play *p)
 {
-    static line one;
+    static recording_line one;
     static tapline unused;
-    if (!line_read(p->recording, &one))
+    if (!next_line(p, &one))
         return NULL;
     return p->taps == RECORDING_TAPS ? complain("a recording has at most %d taps", RECORDING_TAPS) : tapline_read(&one, &unused);
 }
@@ -73,7 +78,7 @@ static complaint tell_bad_line(play *p, char **parts)
 {
     unsigned number = (unsigned)strtoul(parts[1], NULL, 10);
     complaint why = p->bad_line ? p->why : why_line_is_bad(p);
-    if (!why || number != (p->bad_line ? p->bad_line : p->lines + 1))
+    if (!why || number != (p->bad_line ? p->bad_line : p->lines))
         return complain("the player calls line %u bad, and this host finds nothing wrong with it", number);
     if (p->set->json) {
         printf("{\"line\":%u,\"reason\":", number);
@@ -103,13 +108,6 @@ static complaint replay(play *p, const tapline *read, tap *t)
     t->got.response_len = done.length;
     memcpy(p->image, t->got.next, length);
     return NULL;
-}
-
-static void write_response(const tap *t, char text[2 * PRACTICE_ROOM + 1])
-{
-    strcpy(text, t->got.response_len == 0 ? NO_RESPONSE : "");
-    for (size_t at = 0; at < t->got.response_len; at++)
-        sprintf(text + 2 * at, "%02X", t->got.response[at]);
 }
 
 static void tell_expected(const tap *t, const char *expected)
@@ -145,20 +143,20 @@ static void tell_object(const play *p, const char *verdict, const tap *t, const 
 
 static complaint tell_tap(play *p, char **parts)
 {
-    static line one;
+    static recording_line one;
     static tapline read;
     static tap t;
-    char response[2 * PRACTICE_ROOM + 1];
-    if (p->bad_line || !line_read(p->recording, &one))
+    char response[2 * PRACTICE_ROOM + 1] = NO_RESPONSE;
+    if (p->bad_line || !next_line(p, &one))
         return complain("the player has a tap %.12s, and the recording has none", parts[0]);
-    p->lines++;
     p->taps++;
     complaint wrong = tapline_read(&one, &read);
     if (wrong)
         return complain("line %u is bad for this host and good for the player: %s", p->lines, wrong);
     if ((wrong = replay(p, &read, &t)))
         return wrong;
-    write_response(&t, response);
+    if (t.got.response_len > 0)
+        hex_write(response, t.got.response, t.got.response_len);
     if (strcmp(response, parts[2]) != 0 || (strcmp(response, read.expected) == 0) != (strcmp(parts[1], "same") == 0))
         return complain("tap %u: the player printed %s %.40s, and this host's library answers %.40s", p->taps, parts[1], parts[2], response);
     p->others += strcmp(parts[1], "other") == 0;

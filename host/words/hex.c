@@ -38,6 +38,13 @@ int hex_looks(const char *text)
     return strspn(text, "0123456789abcdefABCDEF ") == strlen(text) && strpbrk(text, "0123456789abcdefABCDEF") != NULL;
 }
 
+void hex_write(char *text, const uint8_t *bytes, size_t length)
+{
+    *text = 0;
+    for (size_t at = 0; at < length; at++)
+        sprintf(text + 2 * at, "%02X", bytes[at]);
+}
+
 void hex_print(FILE *out, const uint8_t *bytes, size_t length)
 {
     for (size_t at = 0; at < length; at++)

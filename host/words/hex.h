@@ -11,6 +11,8 @@
 /* Reads all of the text. A complaint where it is no hex or takes more than room bytes. */
 complaint hex_read(const char *text, uint8_t *bytes, size_t room, size_t *length);
 
+/* As a text of twice the length, and a NUL. */
+void hex_write(char *text, const uint8_t *bytes, size_t length);
 void hex_print(FILE *out, const uint8_t *bytes, size_t length);
 
 /* Whether the text has hex digits and blanks alone, at least one digit. */
