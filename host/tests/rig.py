@@ -12,7 +12,7 @@ import termios
 import time
 
 ROOT = pathlib.Path(__file__).resolve().parent.parent.parent
-BUILT = ROOT / "target" / "host"
+BUILT = ROOT / os.environ.get("BUILT", "target/host")  # host/test says which programs are tested
 SHEETS = {curve: ROOT / "host" / "examples" / f"{curve}.sheet" for curve in ("secp256k1", "ed25519")}
 
 sys.path.insert(0, str(ROOT / "tests"))
