@@ -4,8 +4,9 @@
  * host's cryptography has to answer. practice_settle takes the same and the answers, and writes the response and the next image. The
  * library keeps nothing between calls: the host keeps the image.
  *
- *   rt staticlib practice            makes target/staticlib/libpractice.a (x86-64)
- *   cc host.c target/staticlib/libpractice.a
+ *   host/build                       makes target/host/lib/libpractice.a and libpractice.so (x86-64): the proved library, as
+ *                                    rt staticlib practice writes it, and beside it practice_view.h and practice_request.h
+ *   cc host.c target/host/lib/libpractice.a
  *
  * Every pointer is followed by a length in bytes. No pointer may be NULL, also where its length is 0, and the buffers that are written
  * may not overlap with one another or with what is read. Beyond that every content and every length is taken: what does not fit is

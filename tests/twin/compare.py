@@ -1,6 +1,6 @@
 """Compares the proved card with the twin, call by call and byte by byte, over cards, requests and sheets by chance.
 
-Run: python3 tests/twin/compare.py PROGRAM, where PROGRAM serves the proved card's calls (host/measure/compare.c). The same seed makes
+Run: python3 tests/twin/compare.py PROGRAM, where PROGRAM serves the proved card's calls (host/serve/serve.c). The same seed makes
 the same calls.
 """
 

@@ -1,4 +1,4 @@
-"""The proved card, behind the process of host/measure/compare.c, whose head tells the form of its calls."""
+"""The proved card, behind the process of host/serve/serve.c, whose head tells the form of its calls."""
 
 import subprocess
 import struct

@@ -47,7 +47,7 @@ static part parts[MOST_PARTS];
 
 static void stop(const char *why)
 {
-    fprintf(stderr, "compare: %s\n", why);
+    fprintf(stderr, "serve: %s\n", why);
     exit(2);
 }
 

@@ -1,0 +1,66 @@
+"""What a card answers: fields, and after them the status word."""
+
+from typing import NamedTuple, Tuple, Union
+
+from .names import DONE, TAGS, word_name
+
+
+class Field(NamedTuple):
+    tag: int
+    name: str
+    value: bytes
+
+    def __repr__(self):
+        return f"{self.tag:02X} {self.name} {self.value.hex().upper()}"
+
+
+def fields_of(payload: bytes) -> Tuple[Field, ...]:
+    """Tag, length, value, one after the other. A length above 254 takes FF and two bytes."""
+    fields, at = [], 0
+    while at < len(payload):
+        start, length = at + 2, payload[at + 1]
+        if length == 0xFF:
+            start, length = at + 4, int.from_bytes(payload[at + 2 : at + 4], "big")
+        fields.append(Field(payload[at], TAGS.get(payload[at], "?"), payload[start : start + length]))
+        at = start + length
+    return tuple(fields)
+
+
+class Response:
+    """`bytes` is the response as it came. A field's value stands under its tag and under its name: response["Remaining"]."""
+
+    def __init__(self, response: bytes, ins: int = 0):
+        self.bytes = response
+        self.word = int.from_bytes(response[-2:], "big")
+        self.name = word_name(self.word, ins)
+        self.fields = fields_of(response[:-2])
+
+    @property
+    def ok(self) -> bool:
+        return self.word in DONE
+
+    @property
+    def refused(self) -> bool:
+        """The card is as it was before."""
+        return not self.ok
+
+    def __getitem__(self, key: Union[int, str]) -> bytes:
+        for field in self.fields:
+            if key in (field.tag, field.name):
+                return field.value
+        raise KeyError(f"{key:02X}" if isinstance(key, int) else key)
+
+    def __contains__(self, key: Union[int, str]) -> bool:
+        return any(key in (field.tag, field.name) for field in self.fields)
+
+    def number(self, key: Union[int, str]) -> int:
+        return int.from_bytes(self[key], "big")
+
+    def __eq__(self, other) -> bool:
+        return self.bytes == other.bytes if isinstance(other, Response) else NotImplemented
+
+    def __hash__(self) -> int:
+        return hash(self.bytes)
+
+    def __repr__(self) -> str:
+        return f"<Response {self.word:04X} {self.name}{''.join(f', {field}' for field in self.fields)}>"

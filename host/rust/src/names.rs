@@ -1,0 +1,88 @@
+//! The paper's names: commands by INS, fields by tag, status words.
+
+const COMMANDS: [(u8, &str); 12] = [
+    (0xF2, "READ_CARD"),
+    (0xF8, "CREATE_WALLET"),
+    (0xF9, "CHECK_WALLET"),
+    (0xFA, "SET_PIN"),
+    (0xFB, "SIGN"),
+    (0xF3, "VERIFY_CARD"),
+    (0xF4, "VALIDATE_CARD"),
+    (0xFC, "PURGE_WALLET"),
+    (0xE1, "READ_USER_DATA"),
+    (0xE0, "WRITE_USER_DATA"),
+    (0xF6, "WRITE_ISSUER_DATA"),
+    (0xF7, "READ_ISSUER_DATA"),
+];
+
+const TAGS: [(u8, &str); 30] = [
+    (0x01, "CID"),
+    (0x02, "Status"),
+    (0x04, "Card_Signature"),
+    (0x05, "Curve_ID"),
+    (0x10, "PIN1"),
+    (0x11, "PIN2"),
+    (0x12, "New_PIN1"),
+    (0x13, "New_PIN2"),
+    (0x14, "Public_Key_Challenge"),
+    (0x15, "Public_Key_Salt"),
+    (0x16, "Challenge"),
+    (0x17, "Salt"),
+    (0x18, "Card_Validation_Counter"),
+    (0x19, "CVC"),
+    (0x23, "Mode"),
+    (0x2A, "User_Data"),
+    (0x2B, "User_ProtectedData"),
+    (0x2C, "User_Counter"),
+    (0x2D, "User_ProtectedCounter"),
+    (0x32, "Issuer_Data"),
+    (0x33, "Issuer_Data_Signature"),
+    (0x35, "Issuer_Data_Counter"),
+    (0x3A, "Is_Activated"),
+    (0x50, "Transaction_Hash"),
+    (0x51, "Transaction_Hash_Size"),
+    (0x60, "Wallet_PublicKey"),
+    (0x61, "Signature"),
+    (0x62, "Remaining"),
+    (0x63, "Signed_Hashes"),
+    (0x64, "Check_Wallet_Counter"),
+];
+
+const WORDS: [(u16, &str); 11] = [
+    (0x9000, "SW_PROCESS_COMPLETED"),
+    (0x9001, "SW_PIN1_CHANGED"),
+    (0x9002, "SW_PIN2_CHANGED"),
+    (0x9003, "SW_PINS_CHANGED"),
+    (0x6286, "SW_ERROR_PROCESSING_COMMAND"),
+    (0x6700, "SW_WRONG_LENGTH"),
+    (0x6982, "SW_NEED_ENCRYPTION"),
+    (0x6985, "SW_INVALID_STATUS"),
+    (0x6A86, "SW_INVALID_PARAMS"),
+    (0x6D00, "SW_INS_NOT_SUPPORTED"),
+    (0x6E00, "SW_CLA_NOT_SUPPORTED"),
+];
+
+const SET_PIN: u8 = 0xFA;
+
+fn name<Key: PartialEq + Copy>(table: &[(Key, &'static str)], key: Key) -> &'static str {
+    table.iter().find(|row| row.0 == key).map_or("?", |row| row.1)
+}
+
+/// `READ_CARD` of F2; `?` where there is no such command.
+pub fn command(ins: u8) -> &'static str {
+    name(&COMMANDS, ins)
+}
+
+/// `CID` of 01, in requests and in responses.
+pub fn tag(tag: u8) -> &'static str {
+    name(&TAGS, tag)
+}
+
+/// `SW_PROCESS_COMPLETED` of 9000. To SET_PIN that word says that neither code has changed, and has a name of its own.
+pub fn word(word: u16, ins: u8) -> &'static str {
+    if (ins, word) == (SET_PIN, 0x9000) {
+        "SW_PINS_NOT_CHANGED"
+    } else {
+        name(&WORDS, word)
+    }
+}

@@ -1,0 +1,59 @@
+//! What a card answers: fields, and after them the status word.
+
+use crate::names;
+use crate::view::number;
+
+#[derive(Clone, Debug, PartialEq, Eq)]
+pub struct Field {
+    pub tag: u8,
+    pub name: &'static str,
+    pub value: Vec<u8>,
+}
+
+#[derive(Clone, Debug, PartialEq, Eq)]
+pub struct Response {
+    /// As it came.
+    pub bytes: Vec<u8>,
+    pub word: u16,
+    /// The word's.
+    pub name: &'static str,
+    pub fields: Vec<Field>,
+}
+
+impl Response {
+    pub(crate) fn new(bytes: Vec<u8>, ins: u8) -> Response {
+        let (fields, word) = bytes.split_at(bytes.len() - 2);
+        let (fields, word) = (fields_of(fields), number(word) as u16);
+        Response { bytes, word, name: names::word(word, ins), fields }
+    }
+
+    pub fn ok(&self) -> bool {
+        (0x9000..=0x9003).contains(&self.word)
+    }
+
+    /// The card is as it was before.
+    pub fn refused(&self) -> bool {
+        !self.ok()
+    }
+
+    /// The value of the field with this name.
+    pub fn field(&self, name: &str) -> Option<&[u8]> {
+        self.fields.iter().find(|field| field.name == name).map(|field| field.value.as_slice())
+    }
+
+    pub fn number(&self, name: &str) -> Option<u32> {
+        self.field(name).map(number)
+    }
+}
+
+/// Tag, length, value, one after the other. A length above 254 takes FF and two bytes.
+fn fields_of(mut rest: &[u8]) -> Vec<Field> {
+    let mut fields = Vec::new();
+    while let [tag, length, ..] = *rest {
+        let (start, length) = if length == 0xFF { (4, number(&rest[2..4]) as usize) } else { (2, length as usize) };
+        let (field, after) = rest.split_at(start + length);
+        fields.push(Field { tag, name: names::tag(tag), value: field[start..].to_vec() });
+        rest = after;
+    }
+    fields
+}

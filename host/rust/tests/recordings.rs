@@ -1,0 +1,61 @@
+//! Recordings played by the crate: each tap gets the response that was recorded. Those of lessons/, or of the folder that
+//! MERELSTOF_RECORDINGS names.
+
+use merelstof::{Card, Error, Provider, Question};
+use std::{env, fs};
+
+const SHEET_LINES: usize = 13;
+
+/// Draw and answers of the tap under way, as the recording has them.
+#[derive(Default)]
+struct Recorded {
+    draw: [u8; 32],
+    answers: Vec<u8>,
+}
+
+impl Provider for Recorded {
+    fn answer(&mut self, _: &[Question]) -> Vec<u8> {
+        self.answers.clone()
+    }
+
+    fn draw(&mut self) -> [u8; 32] {
+        self.draw
+    }
+}
+
+fn bytes(hex: &str) -> Vec<u8> {
+    (0..hex.len()).step_by(2).map(|at| u8::from_str_radix(&hex[at..at + 2], 16).unwrap()).collect()
+}
+
+fn hex(bytes: &[u8]) -> String {
+    bytes.iter().map(|byte| format!("{byte:02X}")).collect()
+}
+
+fn play(recording: &str) -> usize {
+    let lines: Vec<&str> = recording.split_inclusive('\n').collect();
+    let mut card = Card::from_sheet(&lines[..SHEET_LINES].concat(), Recorded::default()).unwrap();
+    for line in &lines[SHEET_LINES..] {
+        let fields: Vec<&str> = line.trim_end_matches('\n').split('\t').collect();
+        card.provider = Recorded { draw: bytes(fields[1]).try_into().unwrap(), answers: bytes(fields[2]) };
+        let before = card.image().to_vec();
+        let got = match card.tap(&bytes(fields[0])) {
+            Ok(response) => hex(&response.bytes),
+            Err(why) => {
+                assert_eq!((why, card.image()), (Error::WrongAnswers, before.as_slice()));
+                "4".to_string()
+            }
+        };
+        assert_eq!(got, fields[3], "{line}");
+    }
+    lines.len() - SHEET_LINES
+}
+
+#[test]
+fn every_tap_gets_the_response_that_was_recorded() {
+    let folder = env::var("MERELSTOF_RECORDINGS").unwrap_or(concat!(env!("CARGO_MANIFEST_DIR"), "/../../lessons").to_string());
+    let paths = fs::read_dir(folder).unwrap().map(|entry| entry.unwrap().path());
+    let recordings: Vec<_> = paths.filter(|path| path.extension().map_or(false, |end| end == "rec")).collect();
+    let taps: usize = recordings.iter().map(|path| play(&fs::read_to_string(path).unwrap())).sum();
+    println!("{taps} taps of {} recordings", recordings.len());
+    assert!(taps >= 60);
+}
