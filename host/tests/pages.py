@@ -1,4 +1,4 @@
-"""What a page shows: its ```console blocks run again.
+"""What a page shows: every ```console block run again, every block of code held to the source it is from.
 
 In a block a line that starts with `$ ` is a command, and what follows up to the next is all that it prints, on standard output and
 standard error. The blocks of a page are run one after the other in one shell, at the project's root, with /tmp/ standing for a folder of
@@ -17,6 +17,9 @@ from rig import BUILT, ROOT, check, folder
 
 MARK = "-- status"
 BLOCK = re.compile(r"^```console\n(.*?)^```$", re.S | re.M)
+# Code in a language stands word for word in a source of the host that a test builds and runs.
+CODE = re.compile(r"^```(?!console)(\w+)\n(.*?)^```$", re.S | re.M)
+SUFFIX = {"c": "*.c", "cpp": "*.cc", "java": "*.java", "python": "*.py", "rust": "*.rs"}
 COMMAND = re.compile(r"^\$ (.*)\n((?:(?!\$ ).*\n)*)", re.M)
 ENDED = re.compile(rf"(.*?){MARK} (\d+)\n", re.S)
 COMPLAINT = re.compile(r"^(tap|reader|play|host/\w+): .*\n\Z", re.M)
@@ -75,3 +78,6 @@ def run_page(path, seconds: int = 600) -> None:
     for at, ((command, expected), then) in enumerate(zip(shown, next_ones)):
         why = wrong(expected, outputs[at], then == STATUS) if at < len(outputs) else "the shell never came to its end"
         check(f"{page}: {command}", not why, why)
+    for language, block in CODE.findall(text):
+        sources = [source for source in (ROOT / "host").rglob(SUFFIX.get(language, "none")) if block in source.read_text()]
+        check(f"{page}: the {language} that begins {block.split(chr(10))[0]!r} stands in a source", sources, "in none of the host's")
