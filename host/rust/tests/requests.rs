@@ -43,11 +43,7 @@ fn each_command_has_the_bytes_of_the_paper() {
         (set_pin(&c, &[1; 32], &[2; 32]), "00FA000097", format!("P1 CID P2 CVC 1220{} 1320{}", "01".repeat(32), "02".repeat(32))),
         (sign(&c, &[[1; 32], [2; 32]]), "00FB000098", format!("P1 CID P2 CVC 510120 5040{}{}", "01".repeat(32), "02".repeat(32))),
         (sign_again(&c), "00FB000053", "P1 CID P2 CVC".to_string()),
-        (
-            sign(&c, &[[7; 32]; 8]),
-            "00FB000000015A",
-            format!("P1 CID P2 CVC 510120 50FF0100{}", "07".repeat(256)),
-        ),
+        (sign(&c, &[[7; 32]; 8]), "00FB000000015A", format!("P1 CID P2 CVC 510120 50FF0100{}", "07".repeat(256))),
         (verify_card(&c, &[0xA0; 16]), "00F300003E", format!("P1 CID {challenge}")),
         (validate_card(&c), "00F400004E", "P1 CID P2".to_string()),
         (purge_wallet(&c), "00FC00004E", "P1 CID P2".to_string()),
