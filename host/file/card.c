@@ -34,12 +34,15 @@ complaint card_create(const char *path, const uint8_t *image, seed keys)
 
 /* ---- a tap in steps ---- */
 
-/* What is no card gets no lock file beside it. */
+static complaint is_card(const char *path)
+{
+    uint8_t image[PRACTICE_IMAGE_ROOM];
+    return card_read(path, image);
+}
+
 complaint card_open(card *c, const char *path)
 {
-    complaint wrong = card_read(path, c->image);
-    if (!wrong)
-        wrong = store_open(&c->file, path);
+    complaint wrong = store_open(&c->file, path, is_card);
     if (wrong)
         return wrong;
     c->keyed = c->bound = 0;

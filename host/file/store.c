@@ -39,6 +39,8 @@ complaint store_lock(int file)
     for (int tries = 0; tries < store_patience * 1000 / PAUSE_MS; tries++) {
         if (flock(file, LOCK_EX | LOCK_NB) == 0)
             return NULL;
+        if (errno != EWOULDBLOCK && errno != EINTR)
+            return because("cannot be locked");
         nanosleep(&pause, NULL);
     }
     return complain("is in use by another process");
@@ -88,10 +90,15 @@ static complaint open_as(store *card, char *path)
     return wrong;
 }
 
-complaint store_open(store *card, const char *path)
+complaint store_open(store *card, const char *path, complaint (*is_card)(const char *))
 {
-    char *real = realpath(path, NULL);
-    return real ? open_as(card, real) : because("cannot be opened");
+    char *real = realpath(path, NULL), *lock = real ? store_beside(real, ".lock") : NULL;
+    complaint wrong = !lock ? because("cannot be opened") : access(lock, F_OK) != 0 ? is_card(real) : NULL;
+    free(lock);
+    if (!wrong)
+        return open_as(card, real);
+    free(real);
+    return wrong;
 }
 
 /* What is there already gets no lock beside it; and another process may make it while the lock is waited for. */

@@ -18,8 +18,8 @@ typedef struct {
 /* How many seconds a lock is waited for; a program may say otherwise. */
 extern int store_patience;
 
-/* Waits for the lock. After a complaint nothing is held. */
-complaint store_open(store *card, const char *path);
+/* Waits for the lock. Where there is none yet it is made, but only beside what is a card. After a complaint nothing is held. */
+complaint store_open(store *card, const char *path, complaint (*is_card)(const char *path));
 /* The same for a card file that is to be made: a complaint where there is one. */
 complaint store_open_new(store *card, const char *path);
 void store_close(store *card);

@@ -6,6 +6,7 @@
 #include "held.h"
 #include "messages.h"
 #include "tcp.h"
+#include "version.h"
 #include "vpcd.h"
 
 #define WORDS "[--seed TEXT] [--port NUMBER | --tcp NUMBER] CARD"
@@ -29,7 +30,7 @@ static int help(void)
 
 static int version(void)
 {
-    puts("reader, of Merelstof");
+    version_print(stdout, "reader");
     return 0;
 }
 

@@ -8,32 +8,18 @@
 #include <unistd.h>
 
 #include "hex.h"
-#include "line.h"
 #include "sheet.h"
 
-typedef struct {
-    uint8_t bytes[RECORDING_LINE / 2];
-    size_t length;
-} field;
-
-/* The next field of a line: capital hex up to a tab. */
-static int read_field(char **rest, field *found)
-{
-    const char *text = strsep(rest, "\t");
-    return text && strspn(text, "0123456789ABCDEF") == strlen(text) &&
-           !hex_read(text, found->bytes, sizeof found->bytes, &found->length);
-}
-
 /* Where the answers do not fit the questions, 4 stands in the place of a response, and the card stays. */
-static complaint play_tap(played *p, const field *request, const field *draw, const field *answers, const char *response)
+static complaint play_tap(played *p, const tapline *tap)
 {
     uint8_t said[PRACTICE_ROOM], next[PRACTICE_IMAGE_ROOM];
     char expected[2 * PRACTICE_ROOM + 1] = "4";
-    practice_result done = practice_settle(p->image, practice_image_length(), request->bytes, request->length, draw->bytes,
-                                           draw->length, answers->bytes, answers->length, said, sizeof said, next, sizeof next);
+    practice_result done = practice_settle(p->image, practice_image_length(), tap->sent.bytes, tap->sent.length, tap->draw,
+                                           sizeof tap->draw, tap->answers, tap->answers_len, said, sizeof said, next, sizeof next);
     if (done.number == 0)
         hex_write(expected, said, done.length);
-    if (strcmp(response, expected) != 0)
+    if (strcmp(tap->expected, expected) != 0)
         return complain("tap %u has another response on the card of its sheet", p->taps + 1);
     memcpy(p->before, p->image, practice_image_length());
     if (done.number == 0)
@@ -42,16 +28,15 @@ static complaint play_tap(played *p, const field *request, const field *draw, co
     return NULL;
 }
 
-static complaint play_line(played *p, char *text, size_t length)
+/* That a line feed is missing is not the line's fault here: the last one may lack it. */
+static complaint play_line(played *p, recording_line *from)
 {
-    static field request, draw, answers;
+    static tapline tap;
     if (p->taps == RECORDING_TAPS)
         return complain("a recording has at most %d taps", RECORDING_TAPS);
-    if (strlen(text) != length || !read_field(&text, &request) || request.length == 0 || !read_field(&text, &draw) ||
-        draw.length != PRACTICE_DRAW || !read_field(&text, &answers) || !text)
-        return complain("line %u is no tap: request, draw, answers and response in capital hex, parted by tabs",
-                        SHEET_LINES + p->taps + 1);
-    return play_tap(p, &request, &draw, &answers, text);
+    from->kind = LINE_WHOLE;
+    complaint wrong = tapline_read(from, &tap);
+    return wrong ? complain("line %u is no tap: %s", SHEET_LINES + p->taps + 1, wrong) : play_tap(p, &tap);
 }
 
 static complaint read_sheet(FILE *in, played *p)
@@ -70,17 +55,16 @@ static complaint read_sheet(FILE *in, played *p)
 
 static complaint play_lines(FILE *in, played *p)
 {
-    char text[RECORDING_LINE + 1];
-    size_t length;
-    for (line_kind read; (read = line_read(in, text, sizeof text, &length)) != LINE_NONE;) {
+    static recording_line one;
+    for (line_kind read; (read = line_read(in, one.text, sizeof one.text, &one.length)) != LINE_NONE;) {
         if (read == LINE_LONG)
             return complain("line %u has more than %d bytes", SHEET_LINES + p->taps + 1, RECORDING_LINE);
-        complaint wrong = play_line(p, text, length);
+        complaint wrong = play_line(p, &one);
         if (read == LINE_TORN)
             p->end = wrong ? PLAYED_TORN : PLAYED_UNENDED;
         if (wrong)
             return read == LINE_TORN ? NULL : wrong;
-        p->length += (off_t)length + (read == LINE_WHOLE);
+        p->length += (off_t)one.length + (read == LINE_WHOLE);
     }
     return NULL;
 }

@@ -7,10 +7,7 @@
 
 #include "complaint.h"
 #include "practice.h"
-
-/* A recording's limits (Ask 4 of the paper on changes). */
-#define RECORDING_LINE 8192
-#define RECORDING_TAPS 10000
+#include "tapline.h"
 
 /* What a killed process may leave at the end of the file. */
 typedef enum {

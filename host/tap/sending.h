@@ -11,6 +11,7 @@ typedef struct {
     seed keys;
     const char *pin1, *pin2, *cvc;
     int hex_only; /* print the response alone */
+    int json;     /* print each tap as an object */
 } settings;
 
 /* Sends each request to the card file, and prints each response. With no argument the requests are the lines of standard input. */

@@ -1,24 +1,93 @@
-/* A tap in words, or its response in hex alone. */
+/* A tap in words, as JSON, or its response in hex alone. */
 #include "showing.h"
 
 #include <stdio.h>
 
+#include "changes.h"
 #include "hex.h"
+#include "json.h"
+#include "response.h"
+#include "values.h"
 #include "words.h"
 
-static void show_hex(char mark, const uint8_t *bytes, size_t length)
+#define STATUS_WORD 2
+#define NO_RESPONSE "the answers do not fit the questions: no response, and no change"
+
+/* ---- words ---- */
+
+void show_hex(char mark, const uint8_t *bytes, size_t length)
 {
     printf("%c ", mark);
     hex_print(stdout, bytes, length);
     putchar('\n');
 }
 
-static void show_words(const tap *t)
+void show_lines(const tap *t)
 {
-    puts(words_command(t->sent.bytes, t->sent.length));
     show_hex('>', t->sent.bytes, t->sent.length);
+    if (t->got.response_len == 0) {
+        puts("< 4\n   4     " NO_RESPONSE);
+        return;
+    }
     show_hex('<', t->got.response, t->got.response_len);
-    words_response(stdout, t->sent.bytes, t->sent.length, t->got.response, t->got.response_len);
+    response_print(stdout, t->sent.bytes, t->sent.length, t->got.response, t->got.response_len);
+    changes_print(stdout, t->before, t->got.next);
+}
+
+/* ---- JSON ---- */
+
+static void show_string(const char *name, const char *text)
+{
+    printf(",\"%s\":", name);
+    json_string(stdout, text);
+}
+
+static void show_bytes(const char *name, const uint8_t *bytes, size_t length)
+{
+    printf(",\"%s\":", name);
+    json_hex(stdout, bytes, length);
+}
+
+static void show_response(const tap *t)
+{
+    size_t end = t->got.response_len - STATUS_WORD;
+    words_status row = words_status_of((uint16_t)value_number(t->got.response + end, STATUS_WORD), t->sent.bytes, t->sent.length);
+    show_bytes("response", t->got.response, t->got.response_len);
+    printf(",\"word\":\"%04X\"", row.word);
+    show_string("status", row.name);
+    show_string("meaning", row.meaning);
+    fputs(",\"fields\":", stdout);
+    json_fields(stdout, t->got.response, end);
+    fputs(",\"changed\":", stdout);
+    changes_json(stdout, t->before, t->got.next);
+}
+
+void show_members(const tap *t)
+{
+    fputs("\"command\":", stdout);
+    json_string(stdout, words_command(t->sent.bytes, t->sent.length));
+    show_bytes("request", t->sent.bytes, t->sent.length);
+    if (t->got.response_len == 0)
+        fputs(",\"response\":null,\"word\":null,\"status\":null,\"meaning\":\"" NO_RESPONSE "\",\"fields\":[],\"changed\":{}", stdout);
+    else
+        show_response(t);
+    show_bytes("draw", t->draw, sizeof t->draw);
+}
+
+/* ---- either ---- */
+
+static void show_words(int first, const tap *t)
+{
+    fputs(first ? "" : "\n", stdout);
+    puts(words_command(t->sent.bytes, t->sent.length));
+    show_lines(t);
+}
+
+static void show_object(const tap *t)
+{
+    putchar('{');
+    show_members(t);
+    puts("}");
 }
 
 void show_tap(const settings *set, int first, const tap *t)
@@ -26,9 +95,10 @@ void show_tap(const settings *set, int first, const tap *t)
     if (set->hex_only) {
         hex_print(stdout, t->got.response, t->got.response_len);
         putchar('\n');
+    } else if (set->json) {
+        show_object(t);
     } else {
-        fputs(first ? "" : "\n", stdout);
-        show_words(t);
+        show_words(first, t);
     }
     fflush(stdout);
 }

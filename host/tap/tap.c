@@ -1,41 +1,22 @@
 /* tap: a practice card in a file, tapped from the command line. */
-#include <getopt.h>
 #include <stdio.h>
 #include <stdlib.h>
 #include <string.h>
 
 #include "bound.h"
 #include "card.h"
+#include "changes.h"
+#include "explaining.h"
 #include "image.h"
+#include "options.h"
 #include "practice.h"
 #include "provider.h"
 #include "requests.h"
 #include "sending.h"
 #include "sheet.h"
 #include "store.h"
-
-static void help(void)
-{
-    puts("tap: a practice card in a file, tapped from the command line. Its keys are practice keys: anybody can work them out.\n"
-         "\n"
-         "  tap new [--seed TEXT] SHEET CARD   a fresh card file from a personalisation sheet\n"
-         "  tap send [OPTIONS] CARD REQUEST..  send requests, show each response in hex and in words\n"
-         "  tap show CARD                      the card's values\n"
-         "  tap keys [--seed TEXT] CARD        the public keys of the card and of its issuer\n"
-         "  tap record [OPTIONS] SHEET FILE REQUEST..\n"
-         "                                     a recording from a fresh card: the sheet, then a line for each tap\n"
-         "  tap record [OPTIONS] CARD FILE REQUEST..\n"
-         "                                     as send, and put each tap's line at the end of FILE, the card's recording\n"
-         "\n"
-         "A request is hex, or a word with its operands; a lone comma parts requests. Without a REQUEST each line of standard\n"
-         "input is one. The words take the CID and the codes from the card:\n");
-    request_help(stdout);
-    puts("\n"
-         "  --seed TEXT   keys and draws from this seed: the same taps are the same to the byte. Without it the keys come from\n"
-         "                the seed '" SEED_PRACTICE "' and the draws from chance. A card keeps to the seed of its first key\n"
-         "  --pin1 TEXT, --pin2 TEXT, --cvc TEXT   send this code instead of the card's own; a PIN is hashed by SHA-256\n"
-         "  --hex         print each response in hex alone");
-}
+#include "telling.h"
+#include "version.h"
 
 static int usage(const char *line)
 {
@@ -68,15 +49,12 @@ static complaint new_card(const settings *set, const char *sheet_path, const cha
     return about(card_path, card_create(card_path, image, set->keys));
 }
 
-static complaint show_card(const char *path)
+static complaint show_card(const settings *set, const char *path)
 {
     static uint8_t image[PRACTICE_IMAGE_ROOM];
     complaint wrong = about(path, card_read(path, image));
-    for (practice_view_name name = 0; !wrong && name < PRACTICE_VIEW_VALUES; name++) {
-        image_value value = image_get(image, name);
-        printf("%-26s", value.name);
-        value_print(stdout, value.form, value.bytes, value.length, 26);
-    }
+    if (!wrong)
+        (set->json ? values_json : values_print)(stdout, image);
     return wrong;
 }
 
@@ -104,53 +82,138 @@ static complaint show_keys(const settings *set, const char *path)
     return wrong ? wrong : show_key("Issuer_Data_PublicKey", set->keys, image, PROVIDER_ISSUER);
 }
 
-/* Options stand between the command and its first operand, so that a text may begin with a dash. */
-static int read_options(int count, char **arguments, settings *set)
+/* ---- the commands ---- */
+
+typedef complaint (*action)(const options *given, size_t count, char **operands);
+
+static complaint run_new(const options *given, size_t count, char **operands)
 {
-    static const struct option options[] = {{"seed", required_argument, NULL, 's'}, {"pin1", required_argument, NULL, '1'},
-                                            {"pin2", required_argument, NULL, '2'}, {"cvc", required_argument, NULL, 'c'},
-                                            {"hex", no_argument, NULL, 'h'},        {NULL, 0, NULL, 0}};
-    opterr = 0;
-    for (int option; (option = getopt_long(count, arguments, "+", options, NULL)) != -1;)
-        switch (option) {
-        case 's': set->keys = seed_of(optarg); break;
-        case '1': set->pin1 = optarg; break;
-        case '2': set->pin2 = optarg; break;
-        case 'c': set->cvc = optarg; break;
-        case 'h': set->hex_only = 1; break;
-        default: return 0;
-        }
-    return 1;
+    (void)count;
+    return new_card(&given->set, operands[0], operands[1]);
 }
 
-static int run(const settings *set, const char *command, size_t count, char **operands)
+static complaint run_show(const options *given, size_t count, char **operands)
 {
-    if (strcmp(command, "new") == 0)
-        return count == 2 ? ended(new_card(set, operands[0], operands[1])) : usage("new takes SHEET CARD");
-    if (strcmp(command, "show") == 0)
-        return count == 1 ? ended(show_card(operands[0])) : usage("show takes CARD");
-    if (strcmp(command, "keys") == 0)
-        return count == 1 ? ended(show_keys(set, operands[0])) : usage("keys takes CARD");
-    if (strcmp(command, "send") == 0)
-        return count >= 1 ? ended(send_requests(set, operands[0], count - 1, operands + 1)) : usage("send takes CARD REQUEST..");
-    if (strcmp(command, "record") == 0)
-        return count >= 2 ? ended(record_requests(set, operands[0], operands[1], count - 2, operands + 2))
-                          : usage("record takes SHEET or CARD, FILE and REQUEST..");
-    return usage(complain("'%.40s' is no command", command));
+    (void)count;
+    return show_card(&given->set, operands[0]);
+}
+
+static complaint run_keys(const options *given, size_t count, char **operands)
+{
+    (void)count;
+    return show_keys(&given->set, operands[0]);
+}
+
+static complaint run_send(const options *given, size_t count, char **operands)
+{
+    return send_requests(&given->set, operands[0], count - 1, operands + 1);
+}
+
+static complaint run_record(const options *given, size_t count, char **operands)
+{
+    return record_requests(&given->set, operands[0], operands[1], count - 2, operands + 2);
+}
+
+static complaint run_explain(const options *given, size_t count, char **operands)
+{
+    return explain_messages(given->kind, count, operands);
+}
+
+static complaint run_told(const options *given, size_t count, char **operands)
+{
+    (void)count;
+    return tell_play(&given->set, operands[0]);
+}
+
+#define MANY SIZE_MAX
+#define SENT OPTION_SEED OPTION_CODES OPTION_HEX OPTION_JSON
+
+typedef struct {
+    const char *name, *operands, *meaning, *letters;
+    size_t least, most;
+    action run;
+} command;
+
+static const command commands[] = {
+    {"new", "SHEET CARD", "a fresh card file from a personalisation sheet", OPTION_SEED, 2, 2, run_new},
+    {"send", "CARD REQUEST..", "send requests, show each response in hex and in words, and what changed", SENT, 1, MANY, run_send},
+    {"show", "CARD", "the card's values", OPTION_JSON, 1, 1, run_show},
+    {"keys", "CARD", "the public keys of the card and of its issuer", OPTION_SEED, 1, 1, run_keys},
+    {"record", "SHEET FILE REQUEST..", "a recording from a fresh card: the sheet, then a line for each tap", SENT, 2, MANY, run_record},
+    {"record", "CARD FILE REQUEST..", "as send, and put each tap's line at the end of FILE, the card's recording", SENT, 2, MANY, run_record},
+    {"explain", "MESSAGE..", "requests or responses in hex, taken apart; no card is needed", OPTION_KINDS, 1, MANY, run_explain},
+    {"told", "RECORDING", "what the player printed, on standard input, told in words; ./play --words does it", OPTION_JSON, 1, 1, run_told},
+};
+#define COMMANDS (sizeof commands / sizeof *commands)
+
+static void help_on_requests(void)
+{
+    puts("\nA request is hex, or a word with its operands; a lone comma parts requests. Without a REQUEST each line of standard\n"
+         "input is one. The words take the CID and the codes from the card:\n");
+    request_help(stdout);
+}
+
+/* On one command, or on all where it is NULL. */
+static void help(const char *name)
+{
+    const char *letters = name ? "" : SENT OPTION_KINDS;
+    int requests = name == NULL;
+    puts("tap: a practice card in a file, tapped from the command line. Its keys are practice keys: anybody can work them out.\n");
+    for (size_t at = 0; at < COMMANDS; at++) {
+        if (name && strcmp(name, commands[at].name) != 0)
+            continue;
+        printf("  tap %-8s%-21s %s\n", commands[at].name, commands[at].operands, commands[at].meaning);
+        letters = name ? commands[at].letters : letters;
+        requests |= strstr(commands[at].operands, "REQUEST") != NULL;
+    }
+    if (requests)
+        help_on_requests();
+    puts("\nOptions stand anywhere after the command; -- ends them, so that a text may begin with a dash.\n");
+    options_help(stdout, letters);
+}
+
+static const command *command_of(const char *name)
+{
+    for (size_t at = 0; at < COMMANDS; at++)
+        if (strcmp(name, commands[at].name) == 0)
+            return &commands[at];
+    return NULL;
+}
+
+static int run(const options *given, const char *name, size_t count, char **operands)
+{
+    const command *found = command_of(name);
+    if (!found)
+        return usage(complain("'%.40s' is no command", name));
+    const char *beside = options_beside(given, found->letters);
+    if (beside)
+        return usage(complain("%s takes no --%s", name, beside));
+    if (count < found->least || count > found->most)
+        return usage(complain("%s takes %s", name, found->run == run_record ? "SHEET or CARD, FILE and REQUEST.." : found->operands));
+    return ended(found->run(given, count, operands));
 }
 
 int main(int count, char **arguments)
 {
-    settings set = {.keys = seed_of(NULL)};
-    if (count < 2)
-        return usage("no command");
-    if (strcmp(arguments[1], "help") == 0 || strcmp(arguments[1], "--help") == 0) {
-        help();
+    options given = {.set = {.keys = seed_of(NULL)}};
+    complaint wrong = options_read(&count, arguments, &given);
+    const char *name = count > 0 ? arguments[0] : NULL;
+    int asks = name && strcmp(name, "help") == 0;
+    if (wrong)
+        return usage(wrong);
+    if (given.version) {
+        version_print(stdout, "tap");
         return ended(NULL);
     }
-    if (!read_options(count - 1, arguments + 1, &set))
-        return usage("an option is unknown or has no value");
-    if (set.keys.length == 0)
+    if (given.help || asks) {
+        help(asks ? (count > 1 ? arguments[1] : NULL) : name);
+        return ended(NULL);
+    }
+    if (!name)
+        return usage("no command");
+    if (given.set.hex_only && given.set.json)
+        return usage("either --hex or --json");
+    if (given.set.keys.length == 0)
         return usage("the seed has no bytes");
-    return run(&set, arguments[1], (size_t)(count - 1 - optind), arguments + 1 + optind);
+    return run(&given, name, (size_t)count - 1, arguments + 1);
 }

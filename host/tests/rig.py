@@ -5,6 +5,7 @@ import fcntl
 import os
 import pathlib
 import re
+import shutil
 import subprocess
 import sys
 import tempfile
@@ -12,7 +13,7 @@ import termios
 import time
 
 ROOT = pathlib.Path(__file__).resolve().parent.parent.parent
-BUILT = ROOT / "target" / "host"
+BUILT = ROOT / os.environ.get("BUILT", "target/host")  # host/test says which programs are tested
 SHEETS = {curve: ROOT / "host" / "examples" / f"{curve}.sheet" for curve in ("secp256k1", "ed25519")}
 
 sys.path.insert(0, str(ROOT / "tests"))
@@ -104,6 +105,16 @@ def folder() -> pathlib.Path:
 
 
 folder.kept = []
+
+
+def copied(place: pathlib.Path) -> pathlib.Path:
+    """The project in a place of its own, with what is built: times are kept, so that only what is changed there is built anew."""
+    copy = place / "project"
+    shutil.copytree(ROOT, copy, symlinks=True, ignore=lambda at, _: {".git", "target"} if at == str(ROOT) else set())
+    for name in ("host", "staticlib", "bin"):
+        if (ROOT / "target" / name).is_dir():
+            shutil.copytree(ROOT / "target" / name, copy / "target" / name, symlinks=True)
+    return copy
 
 
 def new_card(sheet: pathlib.Path, card: pathlib.Path) -> pathlib.Path:

@@ -2,19 +2,12 @@
 #define _GNU_SOURCE
 #include "complaint.h"
 
-#include <ctype.h>
 #include <errno.h>
 #include <stdarg.h>
 #include <stdio.h>
 #include <stdlib.h>
 
-/* An operand may hold a line feed, and one line is promised. */
-static void on_one_line(char *line)
-{
-    for (char *at = line; *at; at++)
-        if (iscntrl((unsigned char)*at))
-            *at = '?';
-}
+#include "text.h"
 
 /* A line has the room that it needs: a path may be long, and the reason stands after it. */
 static char *line_of(const char *format, va_list arguments)
@@ -22,7 +15,7 @@ static char *line_of(const char *format, va_list arguments)
     char *line;
     if (vasprintf(&line, format, arguments) < 0)
         return NULL;
-    on_one_line(line);
+    text_tame(line); /* an operand may hold a line feed, and one line is promised */
     return line;
 }
 

@@ -4,7 +4,12 @@
 #include <string.h>
 
 #include "hex.h"
+#include "practice.h"
 #include "provider.h"
+#include "text.h"
+#include "words.h"
+
+#define HASH 32
 
 uint32_t value_number(const uint8_t *bytes, size_t length)
 {
@@ -14,82 +19,100 @@ uint32_t value_number(const uint8_t *bytes, size_t length)
     return number;
 }
 
-/* Blanks to tildes alone: what a card holds must not reach the terminal as an escape. */
-static int printable(const uint8_t *bytes, size_t length)
+int value_is_number(value_form form, size_t length)
 {
-    for (size_t at = 0; at < length; at++)
-        if (bytes[at] < 0x20 || bytes[at] > 0x7E)
-            return 0;
-    return length > 0;
+    return (form == VALUE_NUMBER && length >= 1 && length <= 4) ||
+           ((form == VALUE_FLAG || form == VALUE_STATUS || form == VALUE_CURVE) && length == 1);
 }
 
-static void print_text(FILE *out, const uint8_t *bytes, size_t length)
+void value_put_length(FILE *out, size_t length)
 {
-    if (printable(bytes, length))
+    if (length == 0)
+        fputs("none", out);
+    else
+        fprintf(out, "%zu byte%s", length, length == 1 ? "" : "s");
+}
+
+static void put_text(FILE *out, const uint8_t *bytes, size_t length)
+{
+    if (text_shows(bytes, length))
         fwrite(bytes, 1, length, out);
     else
         hex_print(out, bytes, length);
 }
 
-static void print_data(FILE *out, const uint8_t *bytes, size_t length)
+static void put_data(FILE *out, const uint8_t *bytes, size_t length)
 {
-    if (length == 0) {
-        fputs("none", out);
-        return;
-    }
-    fprintf(out, "%zu byte%s  ", length, length == 1 ? "" : "s");
-    print_text(out, bytes, length);
+    value_put_length(out, length);
+    fputs(length > 0 ? "  " : "", out);
+    put_text(out, bytes, length);
 }
 
 /* A code is stored as its SHA-256. The two that cards are delivered with are named. */
-static void print_code(FILE *out, const uint8_t *bytes, size_t length)
+static void put_code(FILE *out, const uint8_t *bytes, size_t length)
 {
     static const char *const defaults[] = {"000000", "000"};
     hex_print(out, bytes, length);
     for (size_t at = 0; at < 2; at++) {
-        uint8_t hash[32];
-        if (length == 32 && provider_sha256((const uint8_t *)defaults[at], strlen(defaults[at]), hash) == PROVIDER_DONE &&
-            memcmp(hash, bytes, 32) == 0)
+        uint8_t hash[HASH];
+        if (length == HASH && provider_sha256((const uint8_t *)defaults[at], strlen(defaults[at]), hash) == PROVIDER_DONE &&
+            memcmp(hash, bytes, HASH) == 0)
             fprintf(out, "  (SHA-256 of '%s')", defaults[at]);
     }
 }
 
-static void print_named(FILE *out, uint32_t number, const char *const *names, size_t count)
+/* A piece a line: signatures, hashes. What is left over at the end is a piece, too. */
+static void put_pieces(FILE *out, const uint8_t *bytes, size_t length, size_t size, int indent)
 {
-    fprintf(out, "%u  %s", number, number < count ? names[number] : "?");
-}
-
-static void print_signatures(FILE *out, const uint8_t *bytes, size_t length, int indent)
-{
-    if (length == 0)
-        fputs("none", out);
-    for (size_t at = 0; at + PROVIDER_SIGNATURE <= length; at += PROVIDER_SIGNATURE) {
+    for (size_t at = 0; at < length; at += size) {
         if (at > 0)
             fprintf(out, "\n%*s", indent, "");
-        hex_print(out, bytes + at, PROVIDER_SIGNATURE);
+        hex_print(out, bytes + at, length - at < size ? length - at : size);
+    }
+}
+
+const char *value_meaning(value_form form, uint32_t number)
+{
+    static const char *const flags[] = {"no", "yes"};
+    static const char *const statuses[] = {
+        WORDS_UNKNOWN, [PRACTICE_EMPTY] = "Empty", [PRACTICE_LOADED] = "Loaded", [PRACTICE_PURGED] = "Purged"};
+    static const char *const curves[] = {WORDS_UNKNOWN, [PRACTICE_SECP256K1] = "secp256k1", [PRACTICE_ED25519] = "ed25519"};
+    switch (form) {
+    case VALUE_FLAG: return number < 2 ? flags[number] : WORDS_UNKNOWN;
+    case VALUE_STATUS: return number < 4 ? statuses[number] : WORDS_UNKNOWN;
+    case VALUE_CURVE: return number < 3 ? curves[number] : WORDS_UNKNOWN;
+    default: return NULL;
+    }
+}
+
+static void put_number(FILE *out, value_form form, uint32_t number)
+{
+    const char *meaning = value_meaning(form, number);
+    fprintf(out, "%u%s%s", number, meaning ? "  " : "", meaning ? meaning : "");
+}
+
+void value_put(FILE *out, value_form form, const uint8_t *bytes, size_t length, int indent)
+{
+    if (value_is_number(form, length)) {
+        put_number(out, form, value_number(bytes, length));
+        return;
+    }
+    if (length == 0) {
+        fputs("none", out);
+        return;
+    }
+    switch (form) {
+    case VALUE_CODE: put_code(out, bytes, length); break;
+    case VALUE_TEXT: put_text(out, bytes, length); break;
+    case VALUE_DATA: put_data(out, bytes, length); break;
+    case VALUE_SIGNATURES: put_pieces(out, bytes, length, PROVIDER_SIGNATURE, indent); break;
+    case VALUE_HASHES: put_pieces(out, bytes, length, HASH, indent); break;
+    default: hex_print(out, bytes, length);
     }
 }
 
 void value_print(FILE *out, value_form form, const uint8_t *bytes, size_t length, int indent)
 {
-    static const char *const flags[] = {"no", "yes"};
-    static const char *const statuses[] = {"?", "Empty", "Loaded", "Purged"};
-    static const char *const curves[] = {"?", "secp256k1", "ed25519"};
-    uint32_t number = value_number(bytes, length);
-    switch (form) {
-    case VALUE_CODE: print_code(out, bytes, length); break;
-    case VALUE_NUMBER: fprintf(out, "%u", number); break;
-    case VALUE_TEXT: print_text(out, bytes, length); break;
-    case VALUE_DATA: print_data(out, bytes, length); break;
-    case VALUE_FLAG: print_named(out, number, flags, 2); break;
-    case VALUE_STATUS: print_named(out, number, statuses, 4); break;
-    case VALUE_CURVE: print_named(out, number, curves, 3); break;
-    case VALUE_SIGNATURES: print_signatures(out, bytes, length, indent); break;
-    case VALUE_BYTES:
-        if (length == 0)
-            fputs("none", out);
-        hex_print(out, bytes, length);
-        break;
-    }
+    value_put(out, form, bytes, length, indent);
     fputc('\n', out);
 }

@@ -15,12 +15,25 @@ typedef enum {
     VALUE_FLAG,
     VALUE_STATUS,
     VALUE_CURVE,
-    VALUE_SIGNATURES
+    VALUE_SIGNATURES,
+    VALUE_HASHES
 } value_form;
 
 uint32_t value_number(const uint8_t *bytes, size_t length);
 
-/* Prints the value and a line feed. A value of several lines starts the later ones with indent blanks. */
+/* Whether a value of this form and length is a number: a counter, a code for something, a flag. */
+int value_is_number(value_form form, size_t length);
+
+/* The name of a number that stands for something, or NULL where it stands for itself. */
+const char *value_meaning(value_form form, uint32_t number);
+
+/* Prints the value. One of several lines starts the later ones with indent blanks. */
+void value_put(FILE *out, value_form form, const uint8_t *bytes, size_t length, int indent);
+
+/* The same, and a line feed. */
 void value_print(FILE *out, value_form form, const uint8_t *bytes, size_t length, int indent);
+
+/* "none", "1 byte", "20 bytes". */
+void value_put_length(FILE *out, size_t length);
 
 #endif

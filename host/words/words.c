@@ -1,11 +1,10 @@
-/* The tables of names: commands, tags, status words. */
+/* The tables of names. */
 #include "words.h"
 
-#include "hex.h"
-#include "values.h"
+#include "practice.h"
 
-#define NAME_WIDTH 24
-#define INDENT 3
+#define COUNT(table) (sizeof(table) / sizeof *(table))
+#define ANY_LENGTH 65535
 
 enum { SET_PIN = 0xFA };
 
@@ -18,112 +17,81 @@ static const struct {
     {0xE1, "READ_USER_DATA"}, {0xE0, "WRITE_USER_DATA"}, {0xF6, "WRITE_ISSUER_DATA"}, {0xF7, "READ_ISSUER_DATA"},
 };
 
-/* The fields of responses. */
-static const struct {
-    uint8_t tag;
-    const char *name;
-    value_form form;
-} fields[] = {
-    {0x01, "CID", VALUE_BYTES},
-    {0x02, "Status", VALUE_STATUS},
-    {0x04, "Card_Signature", VALUE_BYTES},
-    {0x05, "Curve_ID", VALUE_TEXT},
-    {0x15, "Public_Key_Salt", VALUE_BYTES},
-    {0x17, "Salt", VALUE_BYTES},
-    {0x18, "Card_Validation_Counter", VALUE_NUMBER},
-    {0x2A, "User_Data", VALUE_DATA},
-    {0x2B, "User_ProtectedData", VALUE_DATA},
-    {0x2C, "User_Counter", VALUE_NUMBER},
-    {0x2D, "User_ProtectedCounter", VALUE_NUMBER},
-    {0x32, "Issuer_Data", VALUE_DATA},
-    {0x33, "Issuer_Data_Signature", VALUE_BYTES},
-    {0x35, "Issuer_Data_Counter", VALUE_NUMBER},
-    {0x3A, "Is_Activated", VALUE_FLAG},
-    {0x60, "Wallet_PublicKey", VALUE_BYTES},
-    {0x61, "Signature", VALUE_SIGNATURES},
-    {0x62, "Remaining", VALUE_NUMBER},
-    {0x63, "Signed_Hashes", VALUE_NUMBER},
-    {0x64, "Check_Wallet_Counter", VALUE_NUMBER},
+/* Of requests and of responses: no tag has two meanings. */
+static const words_field fields[] = {
+    {0x01, "CID", VALUE_BYTES, 8, 8, 1},
+    {0x02, "Status", VALUE_STATUS, 1, 1, 1},
+    {0x04, "Card_Signature", VALUE_BYTES, 64, 64, 1},
+    {0x05, "Curve_ID", VALUE_TEXT, 7, 9, 2}, /* ed25519, secp256k1 */
+    {0x10, "PIN1", VALUE_CODE, 32, 32, 1},
+    {0x11, "PIN2", VALUE_CODE, 32, 32, 1},
+    {0x12, "New_PIN1", VALUE_CODE, 32, 32, 1},
+    {0x13, "New_PIN2", VALUE_CODE, 32, 32, 1},
+    {0x14, "Public_Key_Challenge", VALUE_BYTES, 0, 16, 16},
+    {0x15, "Public_Key_Salt", VALUE_BYTES, 16, 16, 1},
+    {0x16, "Challenge", VALUE_BYTES, 16, 16, 1},
+    {0x17, "Salt", VALUE_BYTES, 16, 16, 1},
+    {0x18, "Card_Validation_Counter", VALUE_NUMBER, 2, 2, 1},
+    {0x19, "CVC", VALUE_TEXT, 3, 3, 1},
+    {0x23, "Mode", VALUE_NUMBER, 1, 1, 1},
+    {0x2A, "User_Data", VALUE_DATA, 1, 512, 1},
+    {0x2B, "User_ProtectedData", VALUE_DATA, 1, 512, 1},
+    {0x2C, "User_Counter", VALUE_NUMBER, 4, 4, 1},
+    {0x2D, "User_ProtectedCounter", VALUE_NUMBER, 4, 4, 1},
+    {0x32, "Issuer_Data", VALUE_DATA, 1, 512, 1},
+    {0x33, "Issuer_Data_Signature", VALUE_BYTES, 64, 64, 1},
+    {0x35, "Issuer_Data_Counter", VALUE_NUMBER, 4, 4, 1},
+    {0x3A, "Is_Activated", VALUE_FLAG, 1, 1, 1},
+    {0x50, "Transaction_Hash", VALUE_HASHES, 32, 320, 32},
+    {0x51, "Transaction_Hash_Size", VALUE_NUMBER, 1, 1, 1},
+    {0x60, "Wallet_PublicKey", VALUE_BYTES, 32, 65, 33}, /* on ed25519, on secp256k1 */
+    {0x61, "Signature", VALUE_SIGNATURES, 64, 640, 64},
+    {0x62, "Remaining", VALUE_NUMBER, 4, 4, 1},
+    {0x63, "Signed_Hashes", VALUE_NUMBER, 4, 4, 1},
+    {0x64, "Check_Wallet_Counter", VALUE_NUMBER, 4, 4, 1},
 };
 
-static const struct {
-    uint16_t word;
-    const char *name, *meaning;
-} statuses[] = {
-    {0x9000, "SW_PROCESS_COMPLETED", "done"},
-    {0x9001, "SW_PIN1_CHANGED", "done: PIN1 is another now"},
-    {0x9002, "SW_PIN2_CHANGED", "done: PIN2 is another now"},
-    {0x9003, "SW_PINS_CHANGED", "done: both codes are others now"},
-    {0x6286, "SW_ERROR_PROCESSING_COMMAND", "refused: the issuer did not sign this"},
-    {0x6700, "SW_WRONG_LENGTH", "refused: the length of the request, or its Lc"},
-    {0x6982, "SW_NEED_ENCRYPTION", "refused: no encrypted session is open"},
-    {0x6985, "SW_INVALID_STATUS", "refused: not in the card's state, or a condition of the command fails"},
-    {0x6A86, "SW_INVALID_PARAMS", "refused: a code, the CID or a field is absent, wrong or malformed"},
-    {0x6D00, "SW_INS_NOT_SUPPORTED", "refused: no such command"},
-    {0x6E00, "SW_CLA_NOT_SUPPORTED", "refused: no such class"},
+static const words_status statuses[] = {
+    {PRACTICE_SW_PROCESS_COMPLETED, "SW_PROCESS_COMPLETED", "done"},
+    {PRACTICE_SW_PIN1_CHANGED, "SW_PIN1_CHANGED", "done: PIN1 is another now"},
+    {PRACTICE_SW_PIN2_CHANGED, "SW_PIN2_CHANGED", "done: PIN2 is another now"},
+    {PRACTICE_SW_PINS_CHANGED, "SW_PINS_CHANGED", "done: both codes are others now"},
+    {PRACTICE_SW_ERROR_PROCESSING_COMMAND, "SW_ERROR_PROCESSING_COMMAND", "refused: the issuer did not sign this"},
+    {PRACTICE_SW_WRONG_LENGTH, "SW_WRONG_LENGTH", "refused: the length of the request, or its Lc"},
+    {PRACTICE_SW_NEED_ENCRYPTION, "SW_NEED_ENCRYPTION", "refused: no encrypted session is open"},
+    {PRACTICE_SW_INVALID_STATUS, "SW_INVALID_STATUS", "refused: not in the card's state, or a condition of the command fails"},
+    {PRACTICE_SW_INVALID_PARAMS, "SW_INVALID_PARAMS", "refused: a code, the CID or a field is absent, wrong or malformed"},
+    {PRACTICE_SW_INS_NOT_SUPPORTED, "SW_INS_NOT_SUPPORTED", "refused: no such command"},
+    {PRACTICE_SW_CLA_NOT_SUPPORTED, "SW_CLA_NOT_SUPPORTED", "refused: no such class"},
 };
-
-#define COUNT(table) (sizeof(table) / sizeof *(table))
 
 const char *words_command(const uint8_t *request, size_t length)
 {
     for (size_t at = 0; length >= 2 && at < COUNT(commands); at++)
         if (commands[at].ins == request[1])
             return commands[at].name;
-    return "?";
+    return WORDS_UNKNOWN;
 }
 
-/* The field at the start of the bytes: its value's place and length. 0 where the bytes end inside it. */
-static size_t read_field(const uint8_t *bytes, size_t length, const uint8_t **value, size_t *value_len)
+words_field words_field_of(uint8_t tag)
 {
-    size_t header = length >= 2 && bytes[1] == 0xFF ? 4 : 2;
-    if (length < header)
-        return 0;
-    *value_len = header == 4 ? value_number(bytes + 2, 2) : bytes[1];
-    *value = bytes + header;
-    return length - header < *value_len ? 0 : header + *value_len;
-}
-
-static void print_field(FILE *out, uint8_t tag, const uint8_t *value, size_t length)
-{
-    const char *name = "?";
-    value_form form = VALUE_BYTES;
     for (size_t at = 0; at < COUNT(fields); at++)
-        if (fields[at].tag == tag) {
-            name = fields[at].name;
-            form = fields[at].form;
-        }
-    fprintf(out, "%*s%02X    %-*s  ", INDENT, "", tag, NAME_WIDTH, name);
-    value_print(out, form, value, length, INDENT + 6 + NAME_WIDTH + 2);
+        if (fields[at].tag == tag)
+            return fields[at];
+    return (words_field){tag, WORDS_UNKNOWN, VALUE_BYTES, 0, ANY_LENGTH, 1};
 }
 
-static void print_status(FILE *out, int after_set_pin, uint16_t word)
+int words_fits(const words_field *row, size_t length)
 {
-    const char *name = "?", *meaning = "no status word of this card";
+    return length >= row->least && length <= row->most && (length - row->least) % row->step == 0;
+}
+
+words_status words_status_of(uint16_t word, const uint8_t *request, size_t request_len)
+{
+    if (word == PRACTICE_SW_PROCESS_COMPLETED && request_len >= 2 && request[1] == SET_PIN)
+        return (words_status){word, "SW_PINS_NOT_CHANGED", "done: both codes are as they were"};
     for (size_t at = 0; at < COUNT(statuses); at++)
-        if (statuses[at].word == word) {
-            name = statuses[at].name;
-            meaning = statuses[at].meaning;
-        }
-    if (after_set_pin && word == 0x9000) {
-        name = "SW_PINS_NOT_CHANGED";
-        meaning = "done: both codes are as they were";
-    }
-    fprintf(out, "%*s%04X  %-*s  %s\n", INDENT, "", word, NAME_WIDTH, name, meaning);
-}
-
-void words_response(FILE *out, const uint8_t *request, size_t request_len, const uint8_t *response, size_t response_len)
-{
-    size_t end = response_len - 2;
-    for (size_t at = 0; at < end;) {
-        const uint8_t *value;
-        size_t value_len, taken = read_field(response + at, end - at, &value, &value_len);
-        if (taken == 0) {
-            fprintf(out, "%*sthe response ends inside a field\n", INDENT, "");
-            break;
-        }
-        print_field(out, response[at], value, value_len);
-        at += taken;
-    }
-    print_status(out, request_len >= 2 && request[1] == SET_PIN, (uint16_t)value_number(response + end, 2));
+        if (statuses[at].word == word)
+            return statuses[at];
+    return (words_status){word, WORDS_UNKNOWN, "no status word of this card"};
 }

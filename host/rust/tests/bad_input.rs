@@ -68,6 +68,8 @@ fn names_where_there_are_none() {
     let codes = card.codes();
     let same = set_pin(&codes, codes.pin1.as_ref().unwrap(), codes.pin2.as_ref().unwrap());
     assert_eq!(card.tap(&same).unwrap().name, "SW_PINS_NOT_CHANGED");
+    let changed = card.tap(&set_pin(&codes, &[1; 32], codes.pin2.as_ref().unwrap())).unwrap();
+    assert_eq!((changed.word, changed.name, changed.ok()), (0x9001, "SW_PIN1_CHANGED", true));
 }
 
 /// VERIFY_CARD tells its salt, the start of the draw: another in each tap, and by chance where the provider leaves it to the trait.
