@@ -11,17 +11,19 @@
 
 #include "messages.h"
 
-#define WAITING 16 /* connections that the system keeps for us while one is served */
+#define WAITING 16         /* connections that the system keeps for us while one is served */
+#define UNREAD_BYTES 16384 /* answers that it keeps: a client that takes none is noticed soon, and not after 100,000 taps */
 
 /* A new reader may have the port at once, though connections of the last one are not quite forgotten. */
 static int listen_on(struct sockaddr_in *place)
 {
-    const int on = 1;
+    const int on = 1, unread = UNREAD_BYTES;
     socklen_t length = sizeof *place;
     int listener = socket(AF_INET, SOCK_STREAM | SOCK_CLOEXEC | SOCK_NONBLOCK, 0);
     if (listener < 0)
         return -1;
     if (setsockopt(listener, SOL_SOCKET, SO_REUSEADDR, &on, sizeof on) == 0 &&
+        setsockopt(listener, SOL_SOCKET, SO_SNDBUF, &unread, sizeof unread) == 0 &&
         bind(listener, (const struct sockaddr *)place, sizeof *place) == 0 && listen(listener, WAITING) == 0 &&
         getsockname(listener, (struct sockaddr *)place, &length) == 0)
         return listener;
