@@ -111,7 +111,7 @@ def copied(place: pathlib.Path) -> pathlib.Path:
     """The project in a place of its own, with what is built: times are kept, so that only what is changed there is built anew."""
     copy = place / "project"
     shutil.copytree(ROOT, copy, symlinks=True, ignore=lambda at, _: {".git", "target"} if at == str(ROOT) else set())
-    for name in ("host", "staticlib", "bin"):
+    for name in ("host", "staticlib", "bin", "python-x86-64"):
         if (ROOT / "target" / name).is_dir():
             shutil.copytree(ROOT / "target" / name, copy / "target" / name, symlinks=True)
     return copy
