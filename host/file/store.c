@@ -32,18 +32,25 @@ char *store_beside(const char *path, const char *ending)
 
 /* ---- the lock ---- */
 
-/* Another process may be in the middle of its tap, which takes milliseconds: so some seconds are waited before giving up. */
+static long now_ms(void)
+{
+    struct timespec now;
+    clock_gettime(CLOCK_MONOTONIC, &now);
+    return now.tv_sec * 1000L + now.tv_nsec / 1000000L;
+}
+
+/* Another process may be in the middle of its tap, which takes milliseconds: so some seconds are waited before giving up, by the clock,
+ * since on a busy machine each pause is longer than it was meant to be. */
 complaint store_lock(int file)
 {
     const struct timespec pause = {0, PAUSE_MS * 1000000L};
-    for (int tries = 0; tries < store_patience * 1000 / PAUSE_MS; tries++) {
-        if (flock(file, LOCK_EX | LOCK_NB) == 0)
-            return NULL;
+    for (long until = now_ms() + store_patience * 1000L; flock(file, LOCK_EX | LOCK_NB) != 0; nanosleep(&pause, NULL)) {
         if (errno != EWOULDBLOCK && errno != EINTR)
             return because("cannot be locked");
-        nanosleep(&pause, NULL);
+        if (now_ms() >= until)
+            return complain("is in use by another process");
     }
-    return complain("is in use by another process");
+    return NULL;
 }
 
 /* Opened for reading, which is enough to lock, so that all who may write the card can. One that is there is not opened with O_CREAT:
