@@ -103,9 +103,9 @@ static complaint next_of_lines(feed *from, batch *next)
             wrong = cut(from, next);
         if (!wrong)
             join_hex(next);
-        return wrong ? complain("line %u of standard input: %s", from->line, wrong) : NULL;
+        return wrong;
     }
-    return ferror(from->lines) ? complain("standard input cannot be read") : NULL;
+    return ferror(from->lines) ? complain("it cannot be read") : NULL;
 }
 
 /* ---- both ---- */
