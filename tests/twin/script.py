@@ -29,14 +29,14 @@ def runs(old: bytes, new: bytes) -> list:
 
 def asked_line(asked: twin.Asked) -> str:
     written = asked.questions
-    return f"A\t{asked.number}\t{asked.word:04X}\t{len(written)}\t{hexed(written)}"
+    return f"A\t{asked.number}\t{asked.reason}\t{asked.word:04X}\t{len(written)}\t{hexed(written)}"
 
 
 def settled_line(settled: twin.Settled, before: bytes) -> str:
     written = settled.response
     changed = [] if settled.image is None else runs(before, settled.image)
     changes = " ".join(f"{offset:04X}:{hexed(new)}" for offset, new in changed)
-    return f"S\t{settled.number}\t{settled.word:04X}\t{len(written)}\t{hexed(written)}\t{changes}"
+    return f"S\t{settled.number}\t{settled.reason}\t{settled.word:04X}\t{len(written)}\t{hexed(written)}\t{changes}"
 
 
 class Script:

@@ -18,14 +18,14 @@ use Rattle.manual.specs.declared.Command.{Command}
 use Rattle.manual.specs.declared.Verdict.{Verdict}
 use Rattle.manual.specs.declared.Verdict.the-variants.{Pass, Stop}
 use Rattle.manual.specs.Request.{command}
-use Rattle.manual.specs.Row.{Matched, Question, asked, eachAsked, shaped, passed}
+use Rattle.manual.specs.Row.{Matched, Question, asked, eachAsked, shaped}
 use Rattle.manual.specs.Commands.{row}
-use Rattle.manual.specs.Settle.{State, Call, askCall, sentIn, matched, judgedBy, wordOf, Said, done, answered, said, saidBy, cardAfter, questionsOf}
+use Rattle.manual.specs.Settle.{State, Call, askCall, sentIn, matched, judgedBy, wordOf, reasonOf, Said, done, answered, said, saidBy, cardAfter, questionsOf}
 use Rattle.manual.specs.Settle.{settled, settledOf, lent, askedFor, askedOf, posed, roomy}
 use Rattle.story.specs.Sums.{isDone}
 use Rattle.history.specs.Demands.{settleStop, Agree}
 use Rattle.history.proofs.Choice.{by-cases, clash}
-use Rattle.history.proofs.Taps.{by-checks, all, words}
+use Rattle.history.proofs.Taps.{by-checks}
 use Rattle.history.proofs.Cards.{done-is}
 use Rattle.history.proofs.Images.{stop-none, settledAt}
 
@@ -45,13 +45,16 @@ module _ (m : State) (i : Call) (page : List ℕ) where
   abbrev number : Said → ℕ
   number z = lent z (cardAfter z (decode (m .image) .codes) (i .request)) (i .buffers .out) (i .buffers .next) .result .number
 
+  abbrev reason : Said → ℕ
+  reason z = lent z (cardAfter z (decode (m .image) .codes) (i .request)) (i .buffers .out) (i .buffers .next) .result .reason
+
   abbrev word : Said → ℕ
   word z = lent z (cardAfter z (decode (m .image) .codes) (i .request)) (i .buffers .out) (i .buffers .next) .result .word
 
   abbrev Goal : Verdict → Type 0
   Goal z =
       let s : Said = saidBy z x f (i .request) (i .draw) (i .answers) in
-      Agree (i .answers) (posed (wordOf z) (asked (questionsOf z f (i .request) (i .draw))) page)
+      Agree (i .answers) (posed (reasonOf z) (wordOf z) (asked (questionsOf z f (i .request) (i .draw))) page)
       (lent s (cardAfter s (decode (m .image) .codes) (i .request)) (i .buffers .out) (i .buffers .next))
 
   -- 0 is not 4
@@ -64,7 +67,7 @@ module _ (m : State) (i : Call) (page : List ℕ) where
       record {
         these = [];
         bytes = refl;
-        refuses = λ _. refl;
+        refuses = λ _. (refl, refl);
         four = λ z. zero-four z;
         fits = λ z _. clash refl (rw z at e);
         thirteen = λ z _ _. clash refl (rw z at e);
@@ -88,17 +91,17 @@ module _ (m : State) (i : Call) (page : List ℕ) where
             (λ n _. (refl, n));
         fits = λ _. by-cases (λ z. shaped l (i .answers) ≡ false → number z ≡ 4) (shaped l (i .answers)) (λ y n. clash y n) (λ _ _. refl);
         thirteen = λ _.
-            by-cases (λ z. number z ≡ 0 → isDone (word z) ≡ false → word z ≡ swErrorProcessingCommand) (shaped l (i .answers))
+            by-cases (λ z. number z ≡ 0 → isDone (word z) ≡ false → (reason z ≡ 13) × (word z ≡ swErrorProcessingCommand)) (shaped l (i .answers))
             (λ _.
-            by-cases (λ z. number z ≡ 0 → isDone (word z) ≡ false → word z ≡ swErrorProcessingCommand) (r .confirmed (i .answers))
+            by-cases (λ z. number z ≡ 0 → isDone (word z) ≡ false → (reason z ≡ 13) × (word z ≡ swErrorProcessingCommand)) (r .confirmed (i .answers))
             (λ _ _ e. clash (done-is k x) e)
-            (λ _ _ _. refl))
+            (λ _ _ _. (refl, refl)))
             (λ _ e. absurd (omega arith));
       }
 
   agree-card : Agree (i .answers) (askedOf x f (i .request) (i .draw) page) (settledAt m i)
   unfolding askedOf settledOf said judgedBy
-  agree-card = by-checks Goal (all (row k) x f (i .request)) (passed (i .request)) (words (row k) x f (i .request)) (λ n w _ e. stopped n w e) (λ _. passes)
+  agree-card = by-checks (row k) x f (i .request) Goal (λ n w _ e _. stopped n w e) (λ _. passes)
 
 pub agree-model :
     (m : State) (i : Call) (page : List ℕ) → questionsRoom ≤ length page → settleStop m i ≡ 0

@@ -22,7 +22,7 @@ use Rattle.manual.specs.Settle.{State, holding, Call, sentIn, matched, Said, do
 use Rattle.manual.specs.Settle.{cardAfter, Settled, settled, settledOf, lent, untouched, roomy, askedFor, askedOf}
 use Rattle.story.specs.Sums.{Sheet, History, tap}
 use Rattle.story.specs.Buffers.{questions, response, image}
-use Rattle.history.specs.Demands.{AnyCard, stop, Demand2, Event, tapped, tapBy, imageBy, left, played, Fresh, OneMore, Demand3}
+use Rattle.history.specs.Demands.{AnyCard, stop, settleStop, Demand2, Event, tapped, tapBy, imageBy, left, played, Fresh, OneMore, Demand3}
 use Rattle.history.proofs.Choice.{by-cases, clash}
 use Rattle.history.proofs.Taps.{by-tap}
 use Rattle.history.proofs.Seen.{look, watch, Inv, at-first}
@@ -38,7 +38,7 @@ pub quiet : (c : Card) (q d a : List ℕ) → eqb (saidTo c q d a .number) 0 ≡
 unfolding done
 quiet c q d a =
     by-tap (λ z _. eqb (z .number) 0 ≡ false → (z .response ≡ []) × (cardAfter z (c .codes) q ≡ c)) (matched (c .codes) (sentIn q)) (c .face) q d a
-    (λ w x z n. clash refl n)
+    (λ _ w x z n. clash refl n)
     (λ _ s z n. (z .silence n, rw (z .face, z .codes) refl))
     (λ y g n. clash refl n)
 
@@ -90,6 +90,13 @@ stops true true true x y e = clash refl e
 stops true true false x y e = refl
 stops true false c x y e = refl
 stops false b c x y e = refl
+
+-- where none of them applies, the card is looked at
+pub looked : (m : State) (i : Call) → settleStop m i ≡ 0 → settled m i ≡ settledAt m i
+unfolding settled
+looked m i e =
+    let z = stop-none (isCard (m .image)) (roomy (length (i .buffers .out)) (length (i .buffers .next))) (eqb (length (i .draw)) drawSize) e in
+    rw (z .0, z .1 .0, z .1 .1) refl
 
 -- THE CASES OF A CALL: numbers 1 to 3, or the card is looked at
 pub by-call :

@@ -25,7 +25,8 @@ use Rattle.manual.specs.Storage.{guarded, sentCounter, writeIssuerData}
 use Rattle.manual.specs.Commands.{row}
 use Rattle.manual.specs.Row.{Matched}
 use Rattle.manual.specs.Settle.{State, holding, Call, sentIn, matched, Said, refused, done, judgedBy, said, saidBy, saidTo}
-use Rattle.manual.specs.Settle.{cardAfter, settled, settledOf, lent, roomy}
+use Rattle.manual.specs.declared.Outcome.{Outcome}
+use Rattle.manual.specs.Settle.{cardAfter, settled, settledOf, outcome, lent, roomy}
 use Rattle.story.specs.Sums.{tap, isDone, accepted, did}
 use Rattle.story.specs.Buffers.{response, image}
 use Rattle.history.specs.Demands.{AnyCard, isRefusal, settleStop, Demand2, Event, tapped, tapBy, imageBy, left}
@@ -38,14 +39,14 @@ use Rattle.history.proofs.Conduct.{Climbs, same}
 use Rattle.history.proofs.Storage.{above}
 use Rattle.history.proofs.Commands.{conduct}
 use Rattle.history.proofs.Cards.{after, xs}
-use Rattle.history.proofs.Images.{model, stop-none, saidAt, cardAt, settledAt, by-call, response-is, image-is, asks-none}
+use Rattle.history.proofs.Images.{model, stop-none, saidAt, cardAt, looked, by-call, response-is, image-is, asks-none}
 use Rattle.history.proofs.Theorems.{every, keeps-where}
 
 -- A NOTE THAT IS TOO OLD, on a card: refused by checks 1 to 12
 record Old (f : Face) (s : Said) (x : List Question) : Type 0 where
-  word : isRefusal (s .word) ≡ true
+  word : isRefusal (s .reason) (s .word) ≡ true
   refusal : isDone (s .word) ≡ false
-  said : s ≡ refused (s .word) f
+  said : s ≡ refused (s .reason) (s .word) f
   asks : x ≡ []
 
 old-card :
@@ -56,20 +57,14 @@ old-card c q d a g e l =
     let no-way : Passed (row (command q)) m (c .face) (sentIn q) → ⊥ =
     λ h. omega (arith, above m (c .face) (sentIn q) (subst (λ j. Passed (row j) m (c .face) (sentIn q)) e h) g) in
     by-outcome (Old (c .face)) m (c .face) q d a
-    (λ w x y. record { word = x; refusal = y; said = refl; asks = refl })
+    (λ n w x y. record { word = x; refusal = y; said = refl; asks = refl })
     (λ h _. absurd (no-way h))
     (λ h. absurd (no-way h))
     (λ h _. absurd (no-way h))
 
-word-is : (s : Said) (w : ℕ) (f : Face) (c : Card) (out nxt : List ℕ) → s ≡ refused w f → lent s c out nxt .result .word ≡ w
+result-is : (s : Said) (n w : ℕ) (f : Face) (c : Card) (out nxt : List ℕ) → s ≡ refused n w f → lent s c out nxt .result ≡ outcome 0 n w 2
 unfolding lent
-word-is s w f c out nxt e = ap (λ z. lent z c out nxt .result .word) e
-
-looked :
-    (s : State) (i : Call) → isCard (s .image) ≡ true → roomy (length (i .buffers .out)) (length (i .buffers .next)) ≡ true
-    → eqb (length (i .draw)) drawSize ≡ true → settled s i ≡ settledAt s i
-unfolding settled
-looked s i x y z = rw (x, y, z) refl
+result-is s n w f c out nxt e = ap (λ z. lent z c out nxt .result) e
 
 old-model : (m : State) (i : Call) → protected (m .image) ≡ true → NoteUpTo (noteCounter (m .image)) i → Refused model m i
 unfolding settled settledOf accepted
@@ -85,7 +80,9 @@ old-model m i g n =
       word = λ e.
           let z = stop-none (isCard (m .image)) (roomy (length (i .buffers .out)) (length (i .buffers .next))) (eqb (length (i .draw)) drawSize) e in
           rw (z .0, z .1 .0, z .1 .1)
-          (ap isRefusal (word-is s (s .word) (decode (m .image) .face) (cardAt m i) (i .buffers .out) (i .buffers .next) (o .said)) ∙ o .word);
+          (ap (λ (z : Outcome). isRefusal (z .reason) (z .word))
+          (result-is s (s .reason) (s .word) (decode (m .image) .face) (cardAt m i) (i .buffers .out) (i .buffers .next) (o .said))
+          ∙ o .word);
       stays = keeps-where (λ _. Unit {0}) m i (λ _. ap (λ z. cardAfter z (decode (m .image) .codes) (i .request)) (o .said)) tt;
     }
 
@@ -121,7 +118,7 @@ module _ (c : Card) (q d a : List ℕ) where
 
   late-card :
       guarded (c .face) ≡ true → command q ≡ WriteIssuerData → sentCounter (sentIn q) ≤ c .face .held .issuer .counter → {k : Command}
-      → rowsJudge oldRows c q ≡ Pass k → saidTo c q d a ≡ refused swInvalidStatus (c .face)
+      → rowsJudge oldRows c q ≡ Pass k → saidTo c q d a ≡ refused 12 swInvalidStatus (c .face)
   unfolding said judgedBy
   late-card g e l t =
       let n = c .face .held .issuer .counter in
@@ -140,17 +137,17 @@ pub late-note :
     → {k : Command} → rowsJudge oldRows (decode (s .image)) (i .request) ≡ Pass k → f .taps .settle s i .result .word ≡ swInvalidStatus
 unfolding settledOf
 late-note f h s i g n e t =
-    let z = stop-none (isCard (s .image)) (roomy (length (i .buffers .out)) (length (i .buffers .next))) (eqb (length (i .draw)) drawSize) e in
     let u = late-card (decode (s .image)) (i .request) (i .draw) (i .answers) g (by-ins WriteIssuerData refl (i .request) (n .command)) (n .counter) t in
-    ap (λ y. y .result .word) (h .settles s i ∙ looked s i (z .0) (z .1 .0) (z .1 .1))
-    ∙ word-is (saidAt s i) swInvalidStatus (decode (s .image) .face) (cardAt s i) (i .buffers .out) (i .buffers .next) u
+    ap (λ y. y .result .word) (h .settles s i ∙ looked s i e)
+    ∙ ap (λ (z : Outcome). z .word)
+    (result-is (saidAt s i) 12 swInvalidStatus (decode (s .image) .face) (cardAt s i) (i .buffers .out) (i .buffers .next) u)
 
 -- THE STORED COUNTER of a protected card never falls
 climbs-tap : (c : Card) (q d a : List ℕ) → guarded (c .face) ≡ true → Climbs (c .face) (after c q d a .face)
 unfolding done
 climbs-tap c q d a g =
     by-tap (λ z _. Climbs (c .face) (z .face)) (matched (c .codes) (sentIn q)) (c .face) q d a
-    (λ w x z. same refl refl)
+    (λ n w x z. same refl refl)
     (λ _ s z. rw (z .face) (same refl refl))
     (λ y _. conduct (command q) (matched (c .codes) (sentIn q)) (c .face) q d a y .climbs g)
 

@@ -19,15 +19,15 @@ use Rattle.manual.specs.declared.Command.the-variants.{ReadUserData, WriteUserD
 use Rattle.manual.specs.declared.Verdict.{Verdict}
 use Rattle.manual.specs.declared.Verdict.the-variants.{Pass, Stop}
 use Rattle.manual.specs.Request.{code, command}
-use Rattle.manual.specs.Row.{Matched, Row, asked, shaped, passed}
+use Rattle.manual.specs.Row.{Matched, Row, asked, shaped}
 use Rattle.manual.specs.Wallet.{readCard, readFields}
 use Rattle.manual.specs.Commands.{row}
-use Rattle.manual.specs.Settle.{State, Call, sentIn, matched, wordOf, Said, silent, refused, done, answered, lent, roomy, untouched, outcome, posed, posedBy}
+use Rattle.manual.specs.Settle.{State, Call, sentIn, matched, wordOf, reasonOf, Said, silent, refused, done, answered, lent, roomy, untouched, outcome, posed, posedBy}
 use Rattle.manual.specs.Settle.{askedFor, settled}
 use Rattle.story.specs.Buffers.{image}
 use Rattle.history.specs.Demands.{imageBy}
 use Rattle.history.specs.Wrong.{judgedBy, asksBy, saysBy, leavesBy, but, withFieldsOut, boasting, proud}
-use Rattle.history.proofs.Taps.{by-checks, all, words}
+use Rattle.history.proofs.Taps.{by-checks}
 use Rattle.history.proofs.Images.{model, image-lent}
 use Rattle.history.proofs.Rejected.{honest-accepted}
 
@@ -63,8 +63,8 @@ unfolding answered done
 core-mum r m f v d a = go (shaped (r .questions f v d) a) (r .confirmed a)
   where
     go : (b c : Bool)
-        → Core (cond b (cond c (done r m f v d a) (refused swErrorProcessingCommand f)) (silent 4 f))
-        (cond b (cond c (done (mum r) m f v d a) (refused swErrorProcessingCommand f)) (silent 4 f))
+        → Core (cond b (cond c (done r m f v d a) (refused 13 swErrorProcessingCommand f)) (silent 4 f))
+        (cond b (cond c (done (mum r) m f v d a) (refused 13 swErrorProcessingCommand f)) (silent 4 f))
     go true true = record { number = refl; face = refl; executed = refl }
     go true false = record { number = refl; face = refl; executed = refl }
     go false c = record { number = refl; face = refl; executed = refl }
@@ -114,9 +114,8 @@ module _ (c : Card) (q d a : List ℕ) where
     says-alike : proudly ≡ honestly
     says-alike =
         ap (λ z. saysBy rows z c q d a) same-verdict
-        ∙ by-checks (λ z. saysBy rows z c q d a ≡ saysBy row z c q d a) (all (row (command q)) (matched (c .codes) (sentIn q)) (c .face) q) (passed q)
-        (words (row (command q)) (matched (c .codes) (sentIn q)) (c .face) q)
-        (λ n w _ _. refl)
+        ∙ by-checks (row (command q)) (matched (c .codes) (sentIn q)) (c .face) q (λ z. saysBy rows z c q d a ≡ saysBy row z c q d a)
+        (λ n w _ _ _. refl)
         (λ _. ap (λ r. answered r (matched (c .codes) (sentIn q)) (c .face) (sentIn q) d a) same-row)
 
 -- numbers 1 to 3 are the same
@@ -135,10 +134,10 @@ module _ (s : State) (i : Call) where
   pub proud-asks : proud .taps .ask s i ≡ askedFor s i
   proud-asks =
       let e = same-verdict c0 (i .request) (i .draw) (i .answers) in
-      stages (λ z. z) (λ n. posedBy (outcome n 0 0) (i .buffers .page)) (isCard (s .image)) (leb questionsRoom (length (i .buffers .page)))
+      stages (λ z. z) (λ n. posedBy (outcome n 0 0 0) (i .buffers .page)) (isCard (s .image)) (leb questionsRoom (length (i .buffers .page)))
       (eqb (length (i .draw)) drawSize)
       (λ n.
-      posed (wordOf (e n))
+      posed (reasonOf (e n)) (wordOf (e n))
       (asked ((ap (λ z. asksBy rows z c0 (i .request) (i .draw)) e ∙ same-asks c0 (i .request) (i .draw) (i .answers) (judgedBy row c0 (i .request))) n))
       (i .buffers .page))
       ∙ honest-accepted .asks s i

@@ -25,7 +25,7 @@ use Rattle.history.specs.Demands.{AnyCard, isRefusal, Asked, noneAsked, 
 use Rattle.history.specs.Demands.{tapsOf, left, Asks, nothing, due, allKinds, Poses, Demand3}
 use Rattle.history.specs.Wrong.{outside, judgedBy, asksBy, saysBy, honest}
 use Rattle.history.specs.Wrong.{refuser, yesSayer, forgetter, repeater, proud, oldCard, greedy, hasty, hoarder}
-use Rattle.history.specs.Wrong.{eager, riser, teller, forger, notary, mute, stubborn, inventor}
+use Rattle.history.specs.Wrong.{eager, riser, teller, forger, notary, babbler, stubborn, inventor, mute}
 use Rattle.history.proofs.Choice.{both-true, clash}
 use Rattle.history.proofs.Images.{model}
 use Rattle.history.proofs.Story.{run, sheet0, image0, fresh0, sheet1, image1, fresh1, codes1, request, call}
@@ -179,13 +179,13 @@ notary-rejected h =
     refl
 
 -- 15. ask says 1234: no word of the table, nor 9000
-asked-word : (i : Call) (x : Posed) → Asked i x → (x .result .word ≡ swProcessCompleted → ⊥) → isRefusal (x .result .word) ≡ true
-asked-word i x (noneAsked w e z) f = rw z e
+asked-word : (i : Call) (x : Posed) → Asked i x → (x .result .word ≡ swProcessCompleted → ⊥) → isRefusal (x .result .reason) (x .result .word) ≡ true
+asked-word i x (noneAsked n w e z) f = rw z e
 asked-word i x (allAsked v l z) f = absurd (f (ap (λ y. y .result .word) z))
 
-pub mute-rejected : Demand1 mute → ⊥
+pub babbler-rejected : Demand1 babbler → ⊥
 unfolding run
-mute-rejected h =
+babbler-rejected h =
     clash (asked-word reads _ (h .asks (holding image0) reads refl) (λ e. let z : _≡_ {A = ℕ} 0x1234 0x9000 = e in omega arith)) refl
 
 -- 16. settle says number 4: READ_CARD asks nothing, and no answer answers that
@@ -205,5 +205,18 @@ pub inventor-rejected : Demand1 inventor → ⊥
 unfolding run
 inventor-rejected h =
     let e : _≡_ {A = ℕ} 0x6F00 0x6A86 = h .agrees (holding image0) (call (request codes1 ReadCard []) []) (replicate questionsRoom 0)
-    (lit≤ tt) refl .refuses refl in
+    (lit≤ tt) refl .refuses refl .1 in
     absurd (omega arith)
+
+-- 18. keeps the reason to itself: a wrong PIN1 is refused by check 6
+pub mute-rejected : Demand2 mute → ⊥
+unfolding run
+mute-rejected h =
+    let e : _≡_ {A = ℕ} 0 6 = ap (λ z. z .result .reason) (by-manual h [] (call (request codes1 ReadCard []) [])) in
+    absurd (omega arith)
+
+pub mute-rejected-1 : Demand1 mute → ⊥
+unfolding run
+mute-rejected-1 h =
+    let i : Call = call (request codes1 ReadCard []) [] in
+    clash (asked-word i _ (h .asks (holding image0) i refl) (λ e. let z : _≡_ {A = ℕ} 0x6A86 0x9000 = e in omega arith)) refl

@@ -1,19 +1,18 @@
 -- What a tap is: a response read back; and the cases of a tap: refused, stuck, or carried out. Assumes nothing.
-use Prim.Native.Nat.{ℕ, _+_, _-_, _/_, _%_, _≤_}
+use Prim.Native.Nat.{ℕ, _+_, _-_, _/_, _%_, _≤_, _<_}
 use native.Mathlib.Omega.{arith}
-use mathlib.Core.Path.{_≡_, refl, sym, ap, _∙_}
+use mathlib.Core.Path.{_≡_, refl, sym, ap, _∙_, subst}
 use mathlib.Core.List.{List, [], _∷_, _++_}
 use mathlib.Core.Bool.{Bool, true, false, not, _&&_, _||_}
 use lib.ListN.{length, getD, length-append}
 use lib.Seq.{take-at, getD-append-add, getD-append-seam}
-use lib.Dec.{eqb}
-use borrow.Author.Tests.{le-leb, eqb-true}
+use lib.Dec.{leb, eqb}
+use borrow.Author.Tests.{le-leb, leb-true, eq-eqb, ne-eqb, eqb-true}
 use Rattle.wire.specs.Wire.{be2}
 use Rattle.fields.specs.Fields.{View, has, holds, val, wellFormed, written, Tagged, Writable, among, firstOf}
 use Rattle.fields.proofs.Trip.{has-written, val-written}
 use Rattle.card.specs.declared.Face.{Face}
-use Rattle.manual.specs.Words.{swErrorProcessingCommand}
-use Rattle.manual.specs.Words.{swWrongLength, swNeedEncryption, swInvalidStatus, swInvalidParams, swInsNotSupported, swClaNotSupported}
+use Rattle.manual.specs.Words.{swErrorProcessingCommand, swNeedEncryption}
 use Rattle.manual.specs.Tags.{CVC}
 use Rattle.manual.specs.declared.Verdict.{Verdict}
 use Rattle.manual.specs.declared.Verdict.the-variants.{Stop}
@@ -22,7 +21,8 @@ use Rattle.manual.specs.Row.{Matched, Question, shaped, Row, Rule, gateOf, allo
 use Rattle.manual.specs.Commands.{row}
 use Rattle.manual.specs.Settle.{sentIn, judgedBy, judged, Said, silent, refused, done, answered, saidBy, said, questionsOf}
 use Rattle.story.specs.Sums.{bodyOf, lastWord, toldIn, isDone, accepted}
-use Rattle.history.specs.Demands.{isRefusal}
+use Rattle.history.specs.Demands.{checkWord, isRefusal}
+use Rattle.history.specs.Facts.{checkHolds, FirstFails, AllHold}
 use Rattle.history.proofs.Choice.{by-cases, both-true, clash}
 
 -- RESPONSES
@@ -57,36 +57,80 @@ abbrev pub Every : List Rule → Type 0
 Every [] = Unit {0}
 Every (r ∷ rs) = (r .ok ≡ true) × Every rs
 
-abbrev pub refusals : List Rule → Bool
-refusals [] = true
-refusals (r ∷ rs) = isRefusal (r .word) && refusals rs
+-- rules of checks from b on, in their order, each with a word of its check
+abbrev pub refusals : ℕ → List Rule → Bool
+refusals b [] = true
+refusals b (r ∷ rs) = leb b (r .check) && (isRefusal (r .check) (r .word) && refusals (r .check) rs)
+
+-- they leave every earlier check alone
+earlier : (b : ℕ) (rs : List Rule) → refusals b rs ≡ true → (j : ℕ) → j < b → checkHolds j rs ≡ true
+earlier b [] x j l = refl
+earlier b (r ∷ rs) x j l =
+    let y = both-true (leb b (r .check)) (isRefusal (r .check) (r .word) && refusals (r .check) rs) x in
+    let z = both-true (isRefusal (r .check) (r .word)) (refusals (r .check) rs) (y .1) in
+    let u : b ≤ r .check = leb-true b (r .check) (y .0) in
+    rw (ne-eqb (r .check) j (λ e. omega arith), earlier (r .check) rs (z .1) j (omega arith)) refl
+
+-- a rule that holds changes nothing
+past : (r : Rule) (rs : List Rule) (j : ℕ) → r .ok ≡ true → checkHolds j (r ∷ rs) ≡ checkHolds j rs
+past r rs j e = go (not (eqb (r .check) j))
+  where
+    go : (b : Bool) → ((b || r .ok) && checkHolds j rs) ≡ checkHolds j rs
+    go true = refl
+    go false = ap (λ a. a && checkHolds j rs) e
+
+pub all-hold : (rs : List Rule) → Every rs → AllHold rs
+all-hold [] h j = refl
+all-hold (r ∷ rs) h j = past r rs j (h .0) ∙ all-hold rs (h .1) j
 
 -- the status word of a refusal is not 9000 to 9003
-not-done : (w : ℕ) → isRefusal w ≡ true → isDone w ≡ false
-not-done w =
-    one swWrongLength refl
-    (one swClaNotSupported refl (one swInsNotSupported refl (one swNeedEncryption refl (one swInvalidParams refl (last swInvalidStatus refl)))))
+check-not-done : (n : ℕ) → isDone (checkWord n) ≡ false
+check-not-done n =
+    let P : ℕ → Type 0 = λ w. isDone w ≡ false in
+    by-cases P (eqb n 1) (λ _. refl)
+    (λ _.
+    by-cases P (eqb n 2) (λ _. refl)
+    (λ _.
+    by-cases P (eqb n 3) (λ _. refl)
+    (λ _.
+    by-cases P (eqb n 8 || (eqb n 9 || eqb n 12)) (λ _. refl)
+    (λ _. by-cases P (eqb n 13) (λ _. refl) (λ _. refl)))))
+
+-- a refusal's word is its check's, or in check 4 another
+pub by-word : (P : ℕ → Type 0) (n w : ℕ) → isRefusal n w ≡ true → P (checkWord n) → (n ≡ 4 → P swNeedEncryption) → P w
+by-word P n w e own other =
+    let z = both-true (leb n 12) (eqb w (checkWord n) || (eqb n 4 && eqb w swNeedEncryption))
+    (both-true (leb 1 n) (leb n 12 && (eqb w (checkWord n) || (eqb n 4 && eqb w swNeedEncryption))) e .1) .1 in
+    go (eqb w (checkWord n)) refl z
   where
-    last : (x : ℕ) → isDone x ≡ false → eqb w x ≡ true → isDone w ≡ false
-    last x n e = ap isDone (eqb-true w x e) ∙ n
+    go : (b : Bool) → eqb w (checkWord n) ≡ b → (b || (eqb n 4 && eqb w swNeedEncryption)) ≡ true → P w
+    go true h _ = subst P (sym (eqb-true w (checkWord n) h)) own
+    go false h e =
+        let y = both-true (eqb n 4) (eqb w swNeedEncryption) e in
+        subst P (sym (eqb-true w swNeedEncryption (y .1))) (other (eqb-true n 4 (y .0)))
 
-    one : (x : ℕ) → isDone x ≡ false → {b : Bool} → (b ≡ true → isDone w ≡ false) → (eqb w x || b) ≡ true → isDone w ≡ false
-    one x n {b} more e = go (eqb w x) refl e
-      where
-        go : (a : Bool) → eqb w x ≡ a → (a || b) ≡ true → isDone w ≡ false
-        go true h e = last x n h
-        go false h e = more e
+pub not-done : (n w : ℕ) → isRefusal n w ≡ true → isDone w ≡ false
+not-done n w e = by-word (λ x. isDone x ≡ false) n w e (check-not-done n) (λ _. refl)
 
--- a failure refuses, or every check holds
-pub by-checks :
-    (P : Verdict → Type 0) (rs : List Rule) (g : Verdict) → refusals rs ≡ true
-    → ((n w : ℕ) → isRefusal w ≡ true → isDone w ≡ false → P (Stop n w)) → (Every rs → P g) → P (gateOf rs g)
-by-checks P [] g x no-way yes-way = yes-way tt
-by-checks P (r ∷ rs) g x no-way yes-way =
-    let y = both-true (isRefusal (r .word)) (refusals rs) x in
+-- the first check to fail refuses, or every rule holds
+by-rules :
+    (P : Verdict → Type 0) (b : ℕ) (rs : List Rule) (g : Verdict) → refusals b rs ≡ true
+    → ((n w : ℕ) → isRefusal n w ≡ true → isDone w ≡ false → FirstFails n rs → P (Stop n w)) → (Every rs → P g) → P (gateOf rs g)
+by-rules P b [] g x no-way yes-way = yes-way tt
+by-rules P b (r ∷ rs) g x no-way yes-way =
+    let y = both-true (leb b (r .check)) (isRefusal (r .check) (r .word) && refusals (r .check) rs) x .1 in
+    let z = both-true (isRefusal (r .check) (r .word)) (refusals (r .check) rs) y in
     by-cases P (r .ok)
-    (λ e. by-checks P rs g (y .1) no-way (λ h. yes-way (e, h)))
-    (λ e. no-way (r .check) (r .word) (y .0) (not-done (r .word) (y .0)))
+    (λ e.
+    by-rules P (r .check) rs g (z .1)
+    (λ n w x d f. no-way n w x d (record { before = λ j l. past r rs j e ∙ f .before j l; fails = past r rs n e ∙ f .fails }))
+    (λ h. yes-way (e, h)))
+    (λ e.
+    no-way (r .check) (r .word) (z .0) (not-done (r .check) (r .word) (z .0))
+    (record {
+      before = λ j l. rw (ne-eqb (r .check) j (λ e. omega arith), earlier (r .check) rs (z .1) j l) refl;
+      fails = rw (eq-eqb (r .check) (r .check) refl, e) refl;
+    }))
 
 -- the checks that a proof speaks of, by name: a new check moves only the places here
 pub record Passed (r : Row) (m : Matched) (f : Face) (v : View) : Type 0 where
@@ -102,8 +146,10 @@ module _ (r : Row) (m : Matched) (f : Face) (q : List ℕ) where
   abbrev pub all : List Rule
   all = rules r m f (wellFormed (payload q)) (sentIn q) q
 
-  pub words : refusals all ≡ true
-  words = refl
+  pub by-checks :
+      (P : Verdict → Type 0) → ((n w : ℕ) → isRefusal n w ≡ true → isDone w ≡ false → FirstFails n all → P (Stop n w)) → (Every all → P (passed q))
+      → P (gateOf all (passed q))
+  by-checks P = by-rules P 0 all (passed q) refl
 
   pub named : Every all → Passed r m f (sentIn q)
   named h =
@@ -126,8 +172,8 @@ pub record Same (f : Face) (s : Said) : Type 0 where
   pub answer : accepted (s .response) ≡ false
   pub silence : eqb (s .number) 0 ≡ false → s .response ≡ []
 
-refused-same : (f : Face) (w : ℕ) → isDone w ≡ false → Same f (refused w f)
-refused-same f w e = record { face = refl; codes = refl; answer = accepts [] w ∙ e; silence = λ n. clash refl n }
+refused-same : (f : Face) (n w : ℕ) → isDone w ≡ false → Same f (refused n w f)
+refused-same f n w e = record { face = refl; codes = refl; answer = accepts [] w ∙ e; silence = λ n. clash refl n }
 
 silent-same : (f : Face) → Same f (silent 4 f)
 unfolding accepted
@@ -142,15 +188,15 @@ module _ (P : Said → List Question → Type 0) (m : Matched) (f : Face) (q d a
   v = sentIn q
 
   pub by-outcome :
-      ((w : ℕ) → isRefusal w ≡ true → isDone w ≡ false → P (refused w f) [])
+      ((n w : ℕ) → isRefusal n w ≡ true → isDone w ≡ false → P (refused n w f) [])
       → (Passed r m f v → shaped (r .questions f v d) a ≡ false → P (silent 4 f) (r .questions f v d))
-      → (Passed r m f v → P (refused swErrorProcessingCommand f) (r .questions f v d))
+      → (Passed r m f v → P (refused 13 swErrorProcessingCommand f) (r .questions f v d))
       → (Passed r m f v → shaped (r .questions f v d) a ≡ true → P (done r m f v d a) (r .questions f v d))
       → P (said m f q d a) (questionsOf (judged m f q) f q d)
   unfolding said judgedBy answered
   by-outcome no-way four thirteen yes-way =
-      by-checks (λ z. P (saidBy z m f q d a) (questionsOf z f q d)) (all r m f q) (passed q) (words r m f q)
-      (λ n w x e. no-way w x e)
+      by-checks r m f q (λ z. P (saidBy z m f q d a) (questionsOf z f q d))
+      (λ n w x e _. no-way n w x e)
       (λ h.
       by-cases (λ z. P z (r .questions f v d)) (shaped (r .questions f v d) a)
       (λ e. by-cases (λ z. P z (r .questions f v d)) (r .confirmed a) (λ g. yes-way (named r m f q h) e) (λ g. thirteen (named r m f q h)))
@@ -158,15 +204,15 @@ module _ (P : Said → List Question → Type 0) (m : Matched) (f : Face) (q d a
 
   -- the same, where number 4 and check 13 need not be told apart
   pub by-tap :
-      ((w : ℕ) → isRefusal w ≡ true → Same f (refused w f) → P (refused w f) [])
+      ((n w : ℕ) → isRefusal n w ≡ true → Same f (refused n w f) → P (refused n w f) [])
       → (Passed r m f v → (s : Said) → Same f s → P s (r .questions f v d))
       → (Passed r m f v → shaped (r .questions f v d) a ≡ true → P (done r m f v d a) (r .questions f v d))
       → P (said m f q d a) (questionsOf (judged m f q) f q d)
   by-tap no-way stuck yes-way =
       by-outcome
-      (λ w x e. no-way w x (refused-same f w e))
+      (λ n w x e. no-way n w x (refused-same f n w e))
       (λ h _. stuck h (silent 4 f) (silent-same f))
-      (λ h. stuck h (refused swErrorProcessingCommand f) (refused-same f swErrorProcessingCommand refl))
+      (λ h. stuck h (refused 13 swErrorProcessingCommand f) (refused-same f 13 swErrorProcessingCommand refl))
       yes-way
 
 -- what is accepted was carried out
@@ -181,7 +227,7 @@ pub carried :
     → Carried (row (command q)) m f (sentIn q) d a (said m f q d a) (questionsOf (judged m f q) f q d)
 carried m f q d a =
     by-tap (λ s x. accepted (s .response) ≡ true → Carried (row (command q)) m f (sentIn q) d a s x) m f q d a
-    (λ w x k e. clash e (k .answer))
+    (λ n w x k e. clash e (k .answer))
     (λ h s k e. clash e (k .answer))
     (λ h g e. record { passed = h; shape = g; isDone = refl; isAsked = refl })
 
@@ -190,7 +236,6 @@ pub lists :
     (m : Matched) (f : Face) (q d a : List ℕ) → accepted (said m f q d a .response) ≡ true → listed (insOf (getD q 1 0)) ≡ true
 unfolding said judgedBy
 lists m f q d a =
-    by-checks (λ z. accepted (saidBy z m f q d a .response) ≡ true → listed (insOf (getD q 1 0)) ≡ true) (all (row (command q)) m f q) (passed q)
-    (words (row (command q)) m f q)
-    (λ n w _ x e. clash e (accepts [] w ∙ x))
+    by-checks (row (command q)) m f q (λ z. accepted (saidBy z m f q d a .response) ≡ true → listed (insOf (getD q 1 0)) ≡ true)
+    (λ n w _ x _ e. clash e (accepts [] w ∙ x))
     (λ h _. h .1 .1 .0)

@@ -19,9 +19,9 @@ use Rattle.cards.proofs.Round.{shape-decode, is-card-length, is-card-face, card
 use Rattle.manual.specs.Words.{swProcessCompleted, swErrorProcessingCommand, questionsRoom, drawSize}
 use Rattle.manual.specs.declared.Command.{Command}
 use Rattle.manual.specs.Request.{command}
-use Rattle.manual.specs.Row.{Matched, asked, eachAsked, shaped, passed}
+use Rattle.manual.specs.Row.{Matched, asked, eachAsked, shaped}
 use Rattle.manual.specs.Commands.{row}
-use Rattle.manual.specs.Settle.{State, Call, sentIn, matched, judgedBy, wordOf, Said, refused, done, saidTo, cardAfter, fieldsOf, questionsOf}
+use Rattle.manual.specs.Settle.{State, Call, sentIn, matched, judgedBy, wordOf, reasonOf, Said, refused, done, saidTo, cardAfter, fieldsOf, questionsOf}
 use Rattle.manual.specs.Settle.{Settled, settled, settledOf, settledBy, lent, untouched, outcome, over, askedFor, askedOf, posed, posedBy, roomy}
 use Rattle.facts.proofs.Facts.{small-decode, small-shape, facts, asks, tells}
 use Rattle.story.specs.Sums.{isDone}
@@ -30,7 +30,7 @@ use Rattle.history.specs.Demands.{AnyCard, stop, settleRefusal, Asked, n
 use Rattle.history.specs.Demands.{Demand1, Demand2, imageBy, Demand3}
 use Rattle.history.specs.Facts.{Unchanged}
 use Rattle.history.proofs.Choice.{by-cases, clash}
-use Rattle.history.proofs.Taps.{by-checks, all, words, Passed, named, by-outcome, by-tap}
+use Rattle.history.proofs.Taps.{by-checks, Passed, named, by-outcome, by-tap}
 use Rattle.history.proofs.Commands.{conduct}
 use Rattle.history.proofs.Cards.{done-is, after, stays-tap}
 use Rattle.history.proofs.Images.{model, stop-none, stops, saidAt, cardAt, settledAt}
@@ -69,8 +69,8 @@ ask-ends :
     → Asked i (askedOf (matched (decode (m .image) .codes) (sentIn (i .request))) (decode (m .image) .face) (i .request) (i .draw) (i .buffers .page))
 unfolding askedOf judgedBy asked eachAsked joined
 ask-ends m i =
-    by-checks (λ z. Asked i (posed (wordOf z) (asked (questionsOf z f q (i .draw))) (i .buffers .page))) (all (row k) x f q) (passed q) (words (row k) x f q)
-    (λ n w e _. noneAsked w e refl)
+    by-checks (row k) x f q (λ z. Asked i (posed (reasonOf z) (wordOf z) (asked (questionsOf z f q (i .draw))) (i .buffers .page)))
+    (λ n w e _ _. noneAsked n w e refl)
     (λ h. allAsked (asked (row k .questions f v (i .draw))) (asks (facts k) f v (i .draw) (small-decode (m .image)) (named (row k) x f q h .fields)) refl)
   where
     q : List ℕ
@@ -113,9 +113,9 @@ module _ (m : State) (i : Call) (o : isCard (m .image) ≡ true) (b : Bytes (m .
   old-next : encode (decode (m .image)) ++ drop imageSize (i .buffers .next) ≡ over (m .image) (i .buffers .next)
   old-next = λ j. card-image (m .image) o b j ++ drop (sym (is-card-length (m .image) o) j) (i .buffers .next)
 
-  refuses : (w : ℕ) → settleRefusal w ≡ true → Goal (refused w (c .face))
+  refuses : (n w : ℕ) → settleRefusal n w ≡ true → Goal (refused n w (c .face))
   unfolding lent
-  refuses w e = refusal w e (λ j. settledBy (outcome 0 w 2) (over (be2 w) (i .buffers .out)) (old-next j))
+  refuses n w e = refusal n w e (λ j. settledBy (outcome 0 n w 2) (over (be2 w) (i .buffers .out)) (old-next j))
 
   carries :
       Passed (row k) x (c .face) v → shaped (row k .questions (c .face) v (i .draw)) (i .answers) ≡ true
@@ -130,16 +130,16 @@ module _ (m : State) (i : Call) (o : isCard (m .image) ≡ true) (b : Bytes (m .
       let l : List ℕ = written (fieldsOf (row k) n v (i .draw) (i .answers)) in
       let p = conduct k x (c .face) q (i .draw) (i .answers) h .stays (is-card-face (m .image) o) g in
       carriedOut w l (encode d) (done-is k x) (tells (facts k) n v (i .draw) (i .answers) (small-shape (s .face))) (is-card-encode d s p)
-      (λ j. settledBy (outcome 0 w (length-append l (be2 w) j)) (over (l ++ be2 w) (i .buffers .out))
+      (λ j. settledBy (outcome 0 0 w (length-append l (be2 w) j)) (over (l ++ be2 w) (i .buffers .out))
       (encode d ++ drop (sym (length-encode d s) j) (i .buffers .next)))
 
   settle-ends : Ended m i (settledAt m i)
   unfolding settledOf lent done
   settle-ends =
       by-outcome (λ z _. Goal z) x (c .face) q (i .draw) (i .answers)
-      (λ w e _. refuses w (rw e refl))
+      (λ n w e _. refuses n w (rw e refl))
       (λ _ _. shapeless refl)
-      (λ _. refuses swErrorProcessingCommand refl)
+      (λ _. refuses 13 swErrorProcessingCommand refl)
       (λ h g. carries h g)
 
 model-demand1 : Demand1 model
@@ -148,7 +148,7 @@ model-demand1 =
     record {
       askStops = λ m i e.
           stops (isCard (m .image)) (leb questionsRoom (length (i .buffers .page))) (eqb (length (i .draw)) drawSize) _
-          (λ n. posedBy (outcome n 0 0) (i .buffers .page)) e;
+          (λ n. posedBy (outcome n 0 0 0) (i .buffers .page)) e;
       asks = λ m i e.
           let z = stop-none (isCard (m .image)) (leb questionsRoom (length (i .buffers .page))) (eqb (length (i .draw)) drawSize) e in
           rw (z .0, z .1 .0, z .1 .1) (ask-ends m i);
@@ -169,7 +169,7 @@ refused-card : (c : Card) (q d a : List ℕ) → isDone (saidTo c q d a .word) �
 unfolding done
 refused-card c q d a =
     by-tap (λ z _. isDone (z .word) ≡ false → cardAfter z (c .codes) q ≡ c) (matched (c .codes) (sentIn q)) (c .face) q d a
-    (λ w x z e. refl)
+    (λ n w x z e. refl)
     (λ _ s z e. rw (z .face, z .codes) refl)
     (λ y g e. clash (done-is (command q) (matched (c .codes) (sentIn q))) e)
 

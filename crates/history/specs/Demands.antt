@@ -48,44 +48,53 @@ abbrev pub settleStop : State → Call → ℕ
 settleStop s i =
     stop (isCard (s .image)) (roomy (length (i .buffers .out)) (length (i .buffers .next))) (eqb (length (i .draw)) drawSize)
 
--- the status words of checks 1 to 12, which ask may say, and with that of check 13, which settle may
-abbrev pub isRefusal : ℕ → Bool
-isRefusal w =
-    eqb w swWrongLength
-    || (eqb w swClaNotSupported || (eqb w swInsNotSupported || (eqb w swNeedEncryption || (eqb w swInvalidParams || eqb w swInvalidStatus))))
+-- the status word of each check
+abbrev pub checkWord : ℕ → ℕ
+checkWord n =
+    cond (eqb n 1) swWrongLength
+    (cond (eqb n 2) swClaNotSupported
+    (cond (eqb n 3) swInsNotSupported
+    (cond (eqb n 8 || (eqb n 9 || eqb n 12)) swInvalidStatus
+    (cond (eqb n 13) swErrorProcessingCommand
+    swInvalidParams))))
 
-abbrev pub settleRefusal : ℕ → Bool
-settleRefusal w = isRefusal w || eqb w swErrorProcessingCommand
+-- a refusal by check n with word w: one of checks 1 to 12, which ask may say, check 4 with a word more; and check 13, which settle may
+abbrev pub isRefusal : ℕ → ℕ → Bool
+isRefusal n w = leb 1 n && (leb n 12 && (eqb w (checkWord n) || (eqb n 4 && eqb w swNeedEncryption)))
 
--- ask, then: a status word of checks 1 to 12 and zero questions, or 9000 and questions that fit the buffer
+abbrev pub settleRefusal : ℕ → ℕ → Bool
+settleRefusal n w = isRefusal n w || (eqb n 13 && eqb w (checkWord 13))
+
+-- ask, then: one of checks 1 to 12 with its status word and zero questions, or 9000 for no reason and questions that fit the buffer
 pub data Asked (i : Call) (x : Posed) : Type 0 where
-  noneAsked : (w : ℕ) → isRefusal w ≡ true → x ≡ posed w [] (i .buffers .page) → Asked i x
-  allAsked : (v : List ℕ) → length v ≤ questionsRoom → x ≡ posed swProcessCompleted v (i .buffers .page) → Asked i x
+  noneAsked : (n w : ℕ) → isRefusal n w ≡ true → x ≡ posed n w [] (i .buffers .page) → Asked i x
+  allAsked : (v : List ℕ) → length v ≤ questionsRoom → x ≡ posed 0 swProcessCompleted v (i .buffers .page) → Asked i x
 
 -- settle, then: number 4 and nothing written; a refusal, a response of two bytes, with the old image; or fields that fit the buffer, with a card as the
--- next image
+-- next image. The reason is the check that refuses, and 0 where none does
 pub data Ended (s : State) (i : Call) (x : Settled) : Type 0 where
   shapeless : x ≡ untouched 4 (i .buffers .out) (i .buffers .next) → Ended s i x
   refusal :
-      (w : ℕ) → settleRefusal w ≡ true → x ≡ settledBy (outcome 0 w 2) (over (be2 w) (i .buffers .out)) (over (s .image) (i .buffers .next))
+      (n w : ℕ) → settleRefusal n w ≡ true → x ≡ settledBy (outcome 0 n w 2) (over (be2 w) (i .buffers .out)) (over (s .image) (i .buffers .next))
       → Ended s i x
   carriedOut :
       (w : ℕ) (fields m′ : List ℕ) → isDone w ≡ true → length fields + 2 ≤ responseRoom → isCard m′ ≡ true
-      → x ≡ settledBy (outcome 0 w (length fields + 2)) (over (fields ++ be2 w) (i .buffers .out)) (over m′ (i .buffers .next)) → Ended s i x
+      → x ≡ settledBy (outcome 0 0 w (length fields + 2)) (over (fields ++ be2 w) (i .buffers .out)) (over m′ (i .buffers .next)) → Ended s i x
 
--- ask said x and settle, with these answers, y: settle says the status word of ask's refusal; number 4 exactly where checks 1 to 12 pass and the answers do
--- not answer ask's questions; and it refuses what passed with 6286 alone
+-- ask said x and settle, with these answers, y: settle says the reason and the status word of ask's refusal; number 4 exactly where checks 1 to 12 pass and
+-- the answers do not answer ask's questions; and it refuses what passed by check 13 alone, with 6286
 pub record Agree (answers : List ℕ) (x : Posed) (y : Settled) : Type 0 where
   pub these : List Question
   pub bytes : questions x ≡ asked these
-  pub refuses : isDone (x .result .word) ≡ false → y .result .word ≡ x .result .word
+  pub refuses : isDone (x .result .word) ≡ false → (y .result .reason ≡ x .result .reason) × (y .result .word ≡ x .result .word)
   pub four : y .result .number ≡ 4 → (x .result .word ≡ swProcessCompleted) × (shaped these answers ≡ false)
   pub fits : x .result .word ≡ swProcessCompleted → shaped these answers ≡ false → y .result .number ≡ 4
   pub thirteen :
-      x .result .word ≡ swProcessCompleted → y .result .number ≡ 0 → isDone (y .result .word) ≡ false → y .result .word ≡ swErrorProcessingCommand
+      x .result .word ≡ swProcessCompleted → y .result .number ≡ 0 → isDone (y .result .word) ≡ false
+      → (y .result .reason ≡ 13) × (y .result .word ≡ swErrorProcessingCommand)
 
 pub record Demand1 (f : AnyCard) : Type 0 where
-  pub askStops : (s : State) (i : Call) → eqb (askStop s i) 0 ≡ false → f .taps .ask s i ≡ posedBy (outcome (askStop s i) 0 0) (i .buffers .page)
+  pub askStops : (s : State) (i : Call) → eqb (askStop s i) 0 ≡ false → f .taps .ask s i ≡ posedBy (outcome (askStop s i) 0 0 0) (i .buffers .page)
   pub asks : (s : State) (i : Call) → askStop s i ≡ 0 → Asked i (f .taps .ask s i)
   pub settleStops :
       (s : State) (i : Call) → eqb (settleStop s i) 0 ≡ false → f .taps .settle s i ≡ untouched (settleStop s i) (i .buffers .out) (i .buffers .next)

@@ -1,35 +1,78 @@
--- What the further theorems speak of: a card unchanged, what a SIGN costs, a note that is too old. Assumes nothing.
-use Prim.Native.Nat.{ℕ, _+_, _*_, _≤_}
+-- What the further theorems speak of: a card unchanged, the first check to fail, what a SIGN costs, a note that is too old. Assumes nothing.
+use Prim.Native.Nat.{ℕ, _+_, _*_, _≤_, _<_}
 use mathlib.Core.Path.{_≡_}
 use mathlib.Core.List.{List, [], _∷_, _++_}
 use lib.ListN.{take, drop}
-use mathlib.Core.Bool.{Bool, true, false, cond}
-use lib.Dec.{leb}
+use mathlib.Core.Bool.{Bool, true, false, cond, not, _&&_, _||_}
+use lib.Dec.{leb, eqb}
 use Rattle.wire.specs.Wire.{Bytes}
+use Rattle.fields.specs.Fields.{wellFormed}
 use Rattle.card.specs.declared.Card.{Card}
 use Rattle.card.specs.Layout.{mostHashes}
 use Rattle.card.specs.Image.{decode}
 use Rattle.card.specs.Valid.{isCard}
+use Rattle.manual.specs.Words.{swNeedEncryption, swInvalidParams}
 use Rattle.manual.specs.declared.Command.the-variants.{WriteIssuerData}
-use Rattle.manual.specs.Request.{code}
-use Rattle.manual.specs.Row.{Question}
+use Rattle.manual.specs.declared.Outcome.{Outcome}
+use Rattle.manual.specs.Request.{code, command, payload}
+use Rattle.manual.specs.Row.{Question, shaped, Rule, rules}
+use Rattle.manual.specs.Commands.{row}
 use Rattle.manual.specs.Storage.{guarded, sentCounter}
-use Rattle.manual.specs.Settle.{State, Call, sentIn}
-use Rattle.story.specs.Sums.{accepted, ins}
+use Rattle.manual.specs.Settle.{State, Call, sentIn, matched}
+use Rattle.story.specs.Sums.{isDone, accepted, ins}
 use Rattle.story.specs.Buffers.{questions, response}
-use Rattle.history.specs.Demands.{AnyCard, settleStop, isRefusal, imageBy}
+use Rattle.history.specs.Demands.{AnyCard, settleStop, checkWord, isRefusal, imageBy}
 
 -- the image m′ after spells the card that m spelled, and is m itself where m is a card in bytes
 pub record Unchanged (m m′ : List ℕ) : Type 0 where
   pub card : decode m′ ≡ decode m
   pub bytes : isCard m ≡ true → Bytes m → m′ ≡ m
 
--- f refuses the call by checks 1 to 12: nothing is asked, nothing accepted, and the card stays; the status word is told where settle says none of 1 to 3
+-- f refuses the call by checks 1 to 12: nothing is asked, nothing accepted, and the card stays; the check and its status word are told where settle says none
+-- of 1 to 3
 pub record Refused (f : AnyCard) (s : State) (i : Call) : Type 0 where
   pub asks : questions (f .taps .ask s i) ≡ []
   pub answer : accepted (response (f .taps .settle s i)) ≡ false
-  pub word : settleStop s i ≡ 0 → isRefusal (f .taps .settle s i .result .word) ≡ true
+  pub word : settleStop s i ≡ 0 → isRefusal (f .taps .settle s i .result .reason) (f .taps .settle s i .result .word) ≡ true
   pub stays : Unchanged (s .image) (imageBy f s i)
+
+-- CHECKS 1 to 12 that a call is held to, on the card that the image spells
+abbrev pub checksAt : State → Call → List Rule
+checksAt s i =
+    let c : Card = decode (s .image) in
+    let q : List ℕ = i .request in
+    rules (row (command q)) (matched (c .codes) (sentIn q)) (c .face) (wellFormed (payload q)) (sentIn q) q
+
+-- check n holds: each of its parts does
+abbrev pub checkHolds : ℕ → List Rule → Bool
+checkHolds n [] = true
+checkHolds n (r ∷ rs) = (not (eqb (r .check) n) || r .ok) && checkHolds n rs
+
+-- n is the first to fail
+pub record FirstFails (n : ℕ) (rs : List Rule) : Type 0 where
+  pub before : (j : ℕ) → j < n → checkHolds j rs ≡ true
+  pub fails : checkHolds n rs ≡ false
+
+abbrev pub AllHold : List Rule → Type 0
+AllHold rs = (j : ℕ) → checkHolds j rs ≡ true
+
+-- what a result's reason tells of it: 0 exactly where there is a number, or 9000 to 9003; else the status word, of which check 4 has two
+pub record Reasoned (r : Outcome) : Type 0 where
+  pub none : eqb (r .reason) 0 ≡ (not (eqb (r .number) 0) || isDone (r .word))
+  pub word : eqb (r .reason) 0 ≡ false → eqb (r .reason) 4 ≡ false → r .word ≡ checkWord (r .reason)
+  pub four : r .reason ≡ 4 → (eqb (r .word) swNeedEncryption || eqb (r .word) swInvalidParams) ≡ true
+
+-- check 13: the others hold, the answers have the questions' shape, and the issuer's word on a note is no
+pub record SaidNo (s : State) (i : Call) : Type 0 where
+  pub others : AllHold (checksAt s i)
+  pub note : command (i .request) ≡ WriteIssuerData
+  pub shape : shaped (row (command (i .request)) .questions (decode (s .image) .face) (sentIn (i .request)) (i .draw)) (i .answers) ≡ true
+  pub no : i .answers ≡ 0 ∷ []
+
+-- ask's reason x and settle's y: the same, but where settle has the issuer's no
+pub data Alike (x y : ℕ) : Type 0 where
+  alike : y ≡ x → Alike x y
+  thirteen : x ≡ 0 → y ≡ 13 → Alike x y
 
 -- what n new hashes, at most ten, cost a card: one signature, and n hashes on the count
 pub record Cost (c c′ : Card) (n : ℕ) : Type 0 where

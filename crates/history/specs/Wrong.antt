@@ -18,6 +18,7 @@ use Rattle.manual.specs.declared.Command.{Command}
 use Rattle.manual.specs.declared.Command.the-variants.{ReadCard, SetPin, Sign, VerifyCard, PurgeWallet, WriteIssuerData}
 use Rattle.manual.specs.declared.Verdict.{Verdict}
 use Rattle.manual.specs.declared.Verdict.the-variants.{Pass, Stop}
+use Rattle.manual.specs.declared.Outcome.{Outcome}
 use Rattle.manual.specs.Request.{code, command, payload}
 use Rattle.manual.specs.Tags.{Challenge}
 use Rattle.manual.specs.Row.{Matched, Question, question, asked, Row, gateOf, rules, passed}
@@ -25,8 +26,8 @@ use Rattle.manual.specs.Wallet.{readCard, sign, purgeWallet, readFields, isNew,
 use Rattle.manual.specs.Checking.{verifyCard, salt}
 use Rattle.manual.specs.Storage.{writeIssuerData}
 use Rattle.manual.specs.Commands.{row}
-use Rattle.manual.specs.Settle.{State, Call, Posed, Settled, sentIn, matched, wordOf, Said}
-use Rattle.manual.specs.Settle.{silent, refused, answered, untouched, outcome, posed, posedBy, lent, roomy}
+use Rattle.manual.specs.Settle.{State, Call, Posed, Settled, sentIn, matched, wordOf, reasonOf, Said}
+use Rattle.manual.specs.Settle.{silent, refused, answered, untouched, outcome, posed, posedBy, settledBy, lent, roomy}
 use Rattle.story.specs.Sums.{ins}
 use Rattle.history.specs.Demands.{AnyCard}
 
@@ -43,10 +44,11 @@ asksOutside x s i =
     cond (isCard (s .image))
     (cond (leb questionsRoom (length (i .buffers .page)))
     (cond (eqb (length (i .draw)) drawSize)
-    (posed (wordOf (x .verdict (decode (s .image)) (i .request))) (asked (x .asks (decode (s .image)) (i .request) (i .draw))) (i .buffers .page))
-    (posedBy (outcome 3 0 0) (i .buffers .page)))
-    (posedBy (outcome 2 0 0) (i .buffers .page)))
-    (posedBy (outcome 1 0 0) (i .buffers .page))
+    (posed (reasonOf (x .verdict (decode (s .image)) (i .request))) (wordOf (x .verdict (decode (s .image)) (i .request)))
+    (asked (x .asks (decode (s .image)) (i .request) (i .draw))) (i .buffers .page))
+    (posedBy (outcome 3 0 0 0) (i .buffers .page)))
+    (posedBy (outcome 2 0 0 0) (i .buffers .page)))
+    (posedBy (outcome 1 0 0 0) (i .buffers .page))
 
 abbrev pub settlesOutside : Inside → State → Call → Settled
 settlesOutside x s i =
@@ -72,7 +74,7 @@ asksBy r (Stop n w) c q d = []
 asksBy r (Pass k) c q d = r k .questions (c .face) (sentIn q) d
 
 abbrev pub saysBy : (Command → Row) → Verdict → Card → List ℕ → List ℕ → List ℕ → Said
-saysBy r (Stop n w) c q d a = refused w (c .face)
+saysBy r (Stop n w) c q d a = refused n w (c .face)
 saysBy r (Pass k) c q d a = answered (r k) (matched (c .codes) (sentIn q)) (c .face) (sentIn q) d a
 
 abbrev pub leavesBy : (Command → Row) → Card → List ℕ → Said → Card
@@ -98,13 +100,13 @@ refuser =
     (record {
       verdict = λ c q. Stop 12 swInvalidStatus;
       asks = λ c q d. [];
-      says = λ c q d a. refused swInvalidStatus (c .face);
+      says = λ c q d a. refused 12 swInvalidStatus (c .face);
       leaves = λ c q s. c;
     })
 
 -- 2. GIVES 9000 TO EVERYTHING (demand 2)
 abbrev pub yes : Face → Said
-yes f = record { number = 0; word = swProcessCompleted; response = be2 swProcessCompleted; face = f; executed = false }
+yes f = record { number = 0; reason = 0; word = swProcessCompleted; response = be2 swProcessCompleted; face = f; executed = false }
 
 abbrev pub yesSayer : AnyCard
 yesSayer = outside (record { verdict = λ c q. passed q; asks = λ c q d. []; says = λ c q d a. yes (c .face); leaves = λ c q s. c })
@@ -228,8 +230,8 @@ abbrev pub notary : AnyCard
 notary = outside (byRows (but VerifyCard (withQuestions (λ f v d. sign .questions f v d) verifyCard)))
 
 -- 15. ASK SAYS 1234, whatever it is asked (demand 1)
-abbrev pub mute : AnyCard
-mute = outside (record { verdict = λ c q. Stop 12 0x1234; asks = λ c q d. []; says = honest .says; leaves = honest .leaves })
+abbrev pub babbler : AnyCard
+babbler = outside (record { verdict = λ c q. Stop 12 0x1234; asks = λ c q d. []; says = honest .says; leaves = honest .leaves })
 
 -- 16. SETTLE SAYS NUMBER 4, whatever it is answered (demand 1)
 abbrev pub stubborn : AnyCard
@@ -237,4 +239,32 @@ stubborn = outside (record { verdict = honest .verdict; asks = honest .asks; say
 
 -- 17. REFUSES WITH A WORD OF ITS OWN MAKING (demand 1): ask says 6A86 where settle says 6F00
 abbrev pub inventor : AnyCard
-inventor = outside (record { verdict = honest .verdict; asks = honest .asks; says = λ c q d a. refused 0x6F00 (c .face); leaves = λ c q s. c })
+inventor = outside (record { verdict = honest .verdict; asks = honest .asks; says = λ c q d a. refused 6 0x6F00 (c .face); leaves = λ c q s. c })
+
+-- 18. KEEPS THE REASON TO ITSELF (demands 1 and 2), all else being right, as the card did until it told one
+abbrev pub hushed : Verdict → Verdict
+hushed (Pass k) = Pass k
+hushed (Stop n w) = Stop 0 w
+
+abbrev pub quietly : Said → Said
+quietly s = record { number = s .number; reason = 0; word = s .word; response = s .response; face = s .face; executed = s .executed }
+
+abbrev pub mute : AnyCard
+mute =
+    outside
+    (record {
+      verdict = λ c q. hushed (honest .verdict c q);
+      asks = honest .asks;
+      says = λ c q d a. quietly (honest .says c q d a);
+      leaves = honest .leaves;
+    })
+
+-- so it returns the manual's results without their reasons
+abbrev pub unreasoned : Outcome → Outcome
+unreasoned r = outcome (r .number) 0 (r .word) (r .length)
+
+abbrev pub unreasonedAsk : Posed → Posed
+unreasonedAsk x = posedBy (unreasoned (x .result)) (x .questions)
+
+abbrev pub unreasonedSettle : Settled → Settled
+unreasonedSettle x = settledBy (unreasoned (x .result)) (x .response) (x .next)

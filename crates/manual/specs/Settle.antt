@@ -71,14 +71,19 @@ judgedBy formed v m f q = gateOf (rules (row (command q)) m f formed v q) (passe
 abbrev pub judged : Matched → Face → List ℕ → Verdict
 judged m f q = judgedBy (wellFormed (payload q)) (sentIn q) m f q
 
--- the status word of a verdict
+-- the status word of a verdict, and its reason: the number of the check that refuses, or 0
 abbrev pub wordOf : Verdict → ℕ
 wordOf (Pass k) = swProcessCompleted
 wordOf (Stop n w) = w
 
+abbrev pub reasonOf : Verdict → ℕ
+reasonOf (Pass k) = 0
+reasonOf (Stop n w) = n
+
 -- SETTLE: what is said, the face after, and whether the command was carried out; the codes are not in it
 pub record Said : Type 0 where
   pub number : ℕ
+  pub reason : ℕ
   pub word : ℕ
   pub response : List ℕ
   pub face : Face
@@ -86,11 +91,11 @@ pub record Said : Type 0 where
 
 -- number 4
 abbrev pub silent : ℕ → Face → Said
-silent n f = record { number = n; word = 0; response = []; face = f; executed = false }
+silent n f = record { number = n; reason = 0; word = 0; response = []; face = f; executed = false }
 
--- a response of two bytes with the card unchanged
-abbrev pub refused : ℕ → Face → Said
-refused w f = record { number = 0; word = w; response = be2 w; face = f; executed = false }
+-- refused by check n: a response of two bytes with the card unchanged
+abbrev pub refused : ℕ → ℕ → Face → Said
+refused n w f = record { number = 0; reason = n; word = w; response = be2 w; face = f; executed = false }
 
 -- every response starts with CID
 abbrev pub fieldsOf : Row → Face → View → List ℕ → List ℕ → List Tagged
@@ -103,6 +108,7 @@ unfoldable pub done : Row → Matched → Face → View → List ℕ → List �
 done r m f v d a =
     record {
       number = 0;
+      reason = 0;
       word = swProcessCompleted + r .more m;
       response = responseOf r (swProcessCompleted + r .more m) (r .next f v a) v d a;
       face = r .next f v a;
@@ -112,10 +118,10 @@ done r m f v d a =
 -- number 4, then check 13, then the command
 unfoldable pub answered : Row → Matched → Face → View → List ℕ → List ℕ → Said
 answered r m f v d a =
-    cond (shaped (r .questions f v d) a) (cond (r .confirmed a) (done r m f v d a) (refused swErrorProcessingCommand f)) (silent 4 f)
+    cond (shaped (r .questions f v d) a) (cond (r .confirmed a) (done r m f v d a) (refused 13 swErrorProcessingCommand f)) (silent 4 f)
 
 abbrev pub saidBy : Verdict → Matched → Face → List ℕ → List ℕ → List ℕ → Said
-saidBy (Stop n w) m f q d a = refused w f
+saidBy (Stop n w) m f q d a = refused n w f
 saidBy (Pass k) m f q d a = answered (row k) m f (sentIn q) d a
 
 unfoldable pub said : Matched → Face → List ℕ → List ℕ → List ℕ → Said
@@ -137,15 +143,16 @@ pub record Settled : Type 0 where
   pub response : List ℕ
   pub next : List ℕ
 
-abbrev pub outcome : ℕ → ℕ → ℕ → Outcome
-outcome n w l = record { number = n; reason = 0; word = w; length = l }
+-- of number, reason, status word and length
+abbrev pub outcome : ℕ → ℕ → ℕ → ℕ → Outcome
+outcome n r w l = record { number = n; reason = r; word = w; length = l }
 
 abbrev pub settledBy : Outcome → List ℕ → List ℕ → Settled
 settledBy r out nxt = record { result = r; response = out; next = nxt }
 
--- numbers 1 to 4: length 0, status word 0, every buffer unchanged
+-- numbers 1 to 4: length 0, status word 0, no check failed, every buffer unchanged
 abbrev pub untouched : ℕ → List ℕ → List ℕ → Settled
-untouched n out nxt = settledBy (outcome n 0 0) out nxt
+untouched n out nxt = settledBy (outcome n 0 0 0) out nxt
 
 -- bytes after the written part stay
 abbrev pub over : List ℕ → List ℕ → List ℕ
@@ -153,7 +160,7 @@ over v out = v ++ drop (length v) out
 
 abbrev pub wrote : Said → Card → List ℕ → List ℕ → Settled
 wrote s c out nxt =
-    settledBy (outcome 0 (s .word) (length (s .response))) (over (s .response) out) (encode c ++ drop imageSize nxt)
+    settledBy (outcome 0 (s .reason) (s .word) (length (s .response))) (over (s .response) out) (encode c ++ drop imageSize nxt)
 
 unfoldable pub lent : Said → Card → List ℕ → List ℕ → Settled
 lent s c out nxt = cond (eqb (s .number) 0) (wrote s c out nxt) (untouched (s .number) out nxt)
@@ -184,16 +191,16 @@ pub record Posed : Type 0 where
 abbrev pub posedBy : Outcome → List ℕ → Posed
 posedBy r out = record { result = r; questions = out }
 
-abbrev pub posed : ℕ → List ℕ → List ℕ → Posed
-posed w v out = posedBy (outcome 0 w (length v)) (over v out)
+abbrev pub posed : ℕ → ℕ → List ℕ → List ℕ → Posed
+posed n w v out = posedBy (outcome 0 n w (length v)) (over v out)
 
--- zero questions where checks 1 to 12 refuse, and their status word; otherwise 9000, with the command's questions or none
+-- zero questions where checks 1 to 12 refuse, with the check's number and word; otherwise 0 and 9000, with the command's questions or none
 abbrev pub questionsOf : Verdict → Face → List ℕ → List ℕ → List Question
 questionsOf (Stop n w) f q d = []
 questionsOf (Pass k) f q d = row k .questions f (sentIn q) d
 
 unfoldable pub askedOf : Matched → Face → List ℕ → List ℕ → List ℕ → Posed
-askedOf m f q d out = posed (wordOf (judged m f q)) (asked (questionsOf (judged m f q) f q d)) out
+askedOf m f q d out = posed (reasonOf (judged m f q)) (wordOf (judged m f q)) (asked (questionsOf (judged m f q) f q d)) out
 
 abbrev pub askedFrom : Card → List ℕ → List ℕ → List ℕ → Posed
 askedFrom c q d out = askedOf (matched (c .codes) (sentIn q)) (c .face) q d out
@@ -205,6 +212,6 @@ askedFor s i =
     (cond (leb questionsRoom (length (i .buffers .page)))
     (cond (eqb (length (i .draw)) drawSize)
     (askedFrom (decode (s .image)) (i .request) (i .draw) (i .buffers .page))
-    (posedBy (outcome 3 0 0) (i .buffers .page)))
-    (posedBy (outcome 2 0 0) (i .buffers .page)))
-    (posedBy (outcome 1 0 0) (i .buffers .page))
+    (posedBy (outcome 3 0 0 0) (i .buffers .page)))
+    (posedBy (outcome 2 0 0 0) (i .buffers .page)))
+    (posedBy (outcome 1 0 0 0) (i .buffers .page))

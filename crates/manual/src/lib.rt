@@ -51,7 +51,7 @@ pub struct Needs {
     pub cvc: bool,
 }
 
-// What a call returns: the number of 01's table, the reason (0: no check's number is told yet), the status word, the length written.
+// What a call returns: the number of 01's table, the reason (the number of the check that refuses, 0 where none does), the status word, the length written.
 #[repr(C)]
 pub struct Outcome {
     pub number: u8,

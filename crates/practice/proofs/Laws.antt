@@ -92,10 +92,10 @@ responded k m w v e a t x h =
     let f = front (then (all-run t) (runs x)) (omega arith) in
     (record { bytes = f .0; size = f .1 }, omega (arith, f .1))
 
-pub refuses : (c : Card) (w : ℕ) (out nxt : List ℕ) {r : Outcome} {out′ nxt′ : List ℕ} → r ≡ outcome 0 w 2 → out′ ≡ be2 w ++ drop 2 out
-    → nxt′ ≡ encode c ++ drop imageSize nxt → settledBy r out′ nxt′ ≡ lent (refused w (c .face)) c out nxt
+pub refuses : (c : Card) (n w : ℕ) (out nxt : List ℕ) {r : Outcome} {out′ nxt′ : List ℕ} → r ≡ outcome 0 n w 2 → out′ ≡ be2 w ++ drop 2 out
+    → nxt′ ≡ encode c ++ drop imageSize nxt → settledBy r out′ nxt′ ≡ lent (refused n w (c .face)) c out nxt
 unfolding lent
-refuses c w out nxt t e f = λ i. settledBy (t i) (e i) (f i)
+refuses c n w out nxt t e f = λ i. settledBy (t i) (e i) (f i)
 
 -- a command that is carried out
 module _ (k : Command) (c : Card) (v : View) (d a out nxt : List ℕ) where
@@ -103,14 +103,14 @@ module _ (k : Command) (c : Card) (v : View) (d a out nxt : List ℕ) where
   response w x = responseOf (row k) w (x .face) v d a
 
   pub carries :
-      {x : Card} {w l : ℕ} {r : Outcome} {out′ nxt′ : List ℕ} → r ≡ outcome 0 w l → x ≡ carriedCard k c v a
+      {x : Card} {w l : ℕ} {r : Outcome} {out′ nxt′ : List ℕ} → r ≡ outcome 0 0 w l → x ≡ carriedCard k c v a
       → w ≡ swProcessCompleted + row k .more (matched (c .codes) v) → Says (response w x) out l out′
       → nxt′ ≡ encode (carriedCard k c v a) ++ drop imageSize nxt → settledBy r out′ nxt′ ≡ doneIn k c v d a out nxt
   unfolding doneIn lent done
   carries {x} {w} {l} {r} {out′} {nxt′} er ex ew s ei =
       (λ i. settledBy (er i) (s .bytes i) (ei i))
-      ∙ (λ i. settledBy (outcome 0 w (s .size i)) (over (response w x) out) (encode (carriedCard k c v a) ++ drop imageSize nxt))
-      ∙ (λ i. settledBy (outcome 0 (ew i) (length (response (ew i) (ex i)))) (over (response (ew i) (ex i)) out)
+      ∙ (λ i. settledBy (outcome 0 0 w (s .size i)) (over (response w x) out) (encode (carriedCard k c v a) ++ drop imageSize nxt))
+      ∙ (λ i. settledBy (outcome 0 0 (ew i) (length (response (ew i) (ex i)))) (over (response (ew i) (ex i)) out)
       (encode (carriedCard k c v a) ++ drop imageSize nxt))
 
 pub rooms : (a b : ℕ) → roomy a b ≡ true → (responseRoom ≤ a) × (imageRoom ≤ b)
@@ -140,7 +140,7 @@ module _ (c : Card) (q d out : List ℕ) where
   abbrev m : Matched
   m = matched (c .codes) (sentIn q)
 
-  pub asked-stop : {n w : ℕ} → judged m (c .face) q ≡ Stop n w → askedFrom c q d out ≡ posedBy (outcome 0 w 0) out
+  pub asked-stop : {n w : ℕ} → judged m (c .face) q ≡ Stop n w → askedFrom c q d out ≡ posedBy (outcome 0 n w 0) out
   unfolding askedOf asked eachAsked joined
   asked-stop e = rw e refl
 
@@ -148,9 +148,9 @@ module _ (c : Card) (q d out : List ℕ) where
     pub same : j ≡ k
     same = command-of (wellFormed (payload q)) (sentIn q) m (c .face) q e ∙ sym ek
 
-    pub asked-pass : askedFrom c q d out ≡ posed swProcessCompleted (asked (row k .questions (c .face) (sentIn q) d)) out
+    pub asked-pass : askedFrom c q d out ≡ posed 0 swProcessCompleted (asked (row k .questions (c .face) (sentIn q) d)) out
     unfolding askedOf
-    asked-pass = rw e (ap (λ i. posed swProcessCompleted (asked (row i .questions (c .face) (sentIn q) d)) out) same)
+    asked-pass = rw e (ap (λ i. posed 0 swProcessCompleted (asked (row i .questions (c .face) (sentIn q) d)) out) same)
 
     pub sent-fields : row k .fields (c .face) (sentIn q) ≡ true
     sent-fields = ap (λ i. row i .fields (c .face) (sentIn q)) (sym same) ∙ fields-hold (wellFormed (payload q)) (sentIn q) m (c .face) q e
@@ -165,23 +165,23 @@ posed-front k m v d ok t h =
     let f = front (all-run t) (omega arith) in
     (record { bytes = f .0; size = f .1 }, omega (arith, f .1))
 
-pub poses : {v out out′ : List ℕ} {r : ℕ} {x : Outcome} (w : ℕ) → x ≡ outcome 0 w r → Says v out r out′ → posedBy x out′ ≡ posed w v out
-poses {v} {out} w e s = (λ i. posedBy (e i) (s .bytes i)) ∙ ap (λ n. posedBy (outcome 0 w n) (over v out)) (s .size)
+pub poses : {v out out′ : List ℕ} {r : ℕ} {x : Outcome} (n w : ℕ) → x ≡ outcome 0 n w r → Says v out r out′ → posedBy x out′ ≡ posed n w v out
+poses {v} {out} n w e s = (λ i. posedBy (e i) (s .bytes i)) ∙ ap (λ l. posedBy (outcome 0 n w l) (over v out)) (s .size)
 
 -- SETTLE BY ITS VERDICT
 module _ (c : Card) (q d a out nxt : List ℕ) where
   abbrev codes : Matched
   codes = matched (c .codes) (sentIn q)
 
-  pub settled-stop : {n w : ℕ} → judged codes (c .face) q ≡ Stop n w → settledOf c q d a out nxt ≡ lent (refused w (c .face)) c out nxt
+  pub settled-stop : {n w : ℕ} → judged codes (c .face) q ≡ Stop n w → settledOf c q d a out nxt ≡ lent (refused n w (c .face)) c out nxt
   unfolding settledOf said
   settled-stop e = rw e refl
 
   abbrev ways : Command → Bool → Bool → Said
-  ways k s t = cond s (cond t (done (row k) codes (c .face) (sentIn q) d a) (refused swErrorProcessingCommand (c .face))) (silent 4 (c .face))
+  ways k s t = cond s (cond t (done (row k) codes (c .face) (sentIn q) d a) (refused 13 swErrorProcessingCommand (c .face))) (silent 4 (c .face))
 
   by-ways : (k : Command) → k ≡ command q → (s t : Bool) → lent (ways k s t) (cardAfter (ways k s t) (c .codes) q) out nxt
-      ≡ cond s (cond t (doneIn k c (sentIn q) d a out nxt) (lent (refused swErrorProcessingCommand (c .face)) c out nxt)) (untouched 4 out nxt)
+      ≡ cond s (cond t (doneIn k c (sentIn q) d a out nxt) (lent (refused 13 swErrorProcessingCommand (c .face)) c out nxt)) (untouched 4 out nxt)
   unfolding doneIn lent done
   by-ways k e true true =
       ap (λ j. lent (ways k true true) (record { face = row k .next (c .face) (sentIn q) a; codes = row j .recode (sentIn q) (c .codes) }) out nxt) (sym e)

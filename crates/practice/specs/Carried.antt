@@ -32,7 +32,7 @@ madeBy k Failed = ReadCard
 
 -- check 13, then the command
 unfoldable pub confirmedIn : Command → Card → View → List ℕ → List ℕ → List ℕ → List ℕ → Settled
-confirmedIn k c v d a out nxt = cond (row k .confirmed a) (doneIn k c v d a out nxt) (lent (refused swErrorProcessingCommand (c .face)) c out nxt)
+confirmedIn k c v d a out nxt = cond (row k .confirmed a) (doneIn k c v d a out nxt) (lent (refused 13 swErrorProcessingCommand (c .face)) c out nxt)
 
 -- number 4, then check 13, then the command
 unfoldable pub answeredIn : Command → Card → View → List ℕ → List ℕ → List ℕ → List ℕ → Settled

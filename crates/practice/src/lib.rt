@@ -17,14 +17,14 @@ ghost use Rattle.personalise.specs.Personalise.{personalised};
 ghost use Rattle.manual.specs.Words.{questionsRoom, responseRoom, drawSize};
 ghost use Rattle.manual.specs.Row.{eachAsked};
 ghost use Rattle.manual.specs.Commands.{row};
-ghost use Rattle.manual.specs.Settle.{holding, wordOf, refused, responseOf, outcome, settledBy, over, lent, settledOf, roomy, settled, settleCall};
+ghost use Rattle.manual.specs.Settle.{holding, wordOf, reasonOf, refused, responseOf, outcome, settledBy, over, lent, settledOf, roomy, settled, settleCall};
 ghost use Rattle.manual.specs.Settle.{posedBy, askedFrom, askedFor, askCall};
 ghost use Rattle.gate.specs.Gate.{laterOf};
 ghost use Rattle.practice.specs.Carried.{Says, madeBy, confirmedIn, answeredIn};
 
-// Numbers 1 to 4: nothing is written.
+// Numbers 1 to 4: nothing is written, and no check has failed.
 fn only(number: u8) -> Outcome
-    ensures { λ r. ⌜ r ≡ outcome number 0 0 ⌝ }
+    ensures { λ r. ⌜ r ≡ outcome number 0 0 0 ⌝ }
 {
     Outcome {
         number,
@@ -34,13 +34,13 @@ fn only(number: u8) -> Outcome
     }
 }
 
-// Number 0: a status word, and the length written.
-fn told(word: u16, length: u32) -> Outcome
-    ensures { λ r. ⌜ r ≡ outcome 0 word length ⌝ }
+// Number 0: the check that refuses, 0 where none does; a status word, and the length written.
+fn told(reason: u8, word: u16, length: u32) -> Outcome
+    ensures { λ r. ⌜ r ≡ outcome 0 reason word length ⌝ }
 {
     Outcome {
         number: 0,
-        reason: 0,
+        reason,
         word,
         length,
     }
@@ -67,32 +67,35 @@ fn is_draw(draw: &[u8]) -> Check
     wire::checked(draw.len() == manual::DRAW_SIZE)
 }
 
-fn word_of(v: Verdict) -> u16
-    ensures { λ r. ⌜ r ≡ wordOf v ⌝ }
+// A verdict, and the length written.
+fn says(v: Verdict, length: u32) -> Outcome
+    ensures { λ r. ⌜ r ≡ outcome 0 (reasonOf v) (wordOf v) length ⌝ }
 {
     match v {
-        Verdict::Pass(_) => Outcome::SW_PROCESS_COMPLETED,
-        Verdict::Stop(_, word) => word,
+        Verdict::Pass(_) => told(0, Outcome::SW_PROCESS_COMPLETED, length),
+        Verdict::Stop(check, word) => told(check, word, length),
     }
 }
 
-// A status word alone.
-fn word_alone(word: u16, response: &mut [u8]) -> Outcome
+// A verdict, and its status word alone.
+fn word_alone(v: Verdict, response: &mut [u8]) -> Outcome
     requires { ⌜ responseRoom ≤ length (now response) ⌝ }
-    ensures { λ r. ⌜ (r ≡ outcome 0 word 2) × (now (response .exit) ≡ over (be2 word) (now (response .entry))) ⌝ }
+    ensures { λ r. ⌜ (r ≡ outcome 0 (reasonOf v) (wordOf v) 2) × (now (response .exit) ≡ over (be2 (wordOf v)) (now (response .entry))) ⌝ }
 {
-    wire::put16(response, 0, word);
-    told(word, 2)
+    let o = says(v, 2);
+    wire::put16(response, 0, o.word);
+    o
 }
 
-// A status word alone; the next image is the old one.
-fn refuse(img: &[u8], word: u16, response: &mut [u8], next: &mut [u8]) -> Outcome
+// Refused by checks 1 to 12: the status word alone; the next image is the old one.
+fn refuse(img: &[u8], v: Verdict, response: &mut [u8], next: &mut [u8]) -> Outcome
     requires { ⌜ (responseRoom ≤ length (now response)) × (imageRoom ≤ length (now next)) × (length (now img) ≡ imageSize) ⌝ }
     ensures { λ r. ⌜ settledBy r (now (response .exit)) (now (next .exit))
-        ≡ lent (refused word (decode (now (img .entry)) .face)) (decode (now (img .entry))) (now (response .entry)) (now (next .entry)) ⌝ }
+        ≡ lent (refused (reasonOf v) (wordOf v) (decode (now (img .entry)) .face)) (decode (now (img .entry)))
+        (now (response .entry)) (now (next .entry)) ⌝ }
 {
     changes::keep(img, next);
-    word_alone(word, response)
+    word_alone(v, response)
 }
 
 // The fields of the card after, and the status word.
@@ -145,12 +148,15 @@ fn carry_out(
     let confirmed = answers::confirmation(cmd, answers);
     changes::change(made(cmd, confirmed), img, p, places, answers, next);
     let Check::Fine = confirmed else {
-        return word_alone(Outcome::SW_ERROR_PROCESSING_COMMAND, response);
+        return word_alone(
+            Verdict::Stop(13, Outcome::SW_ERROR_PROCESSING_COMMAND),
+            response,
+        );
     };
     let word = tells::word(cmd, img, p, places);
     let after = wire::part(next, 0, layout::IMAGE_SIZE);
     let length = respond(cmd, after, word, p, places, draw, answers, response);
-    told(word, length)
+    told(0, word, length)
 }
 
 // Number 4, then check 13, then the command.
@@ -207,14 +213,14 @@ fn settle_card(
 {
     let h = gate::header(request);
     let Verdict::Pass(cmd) = h else {
-        return refuse(img, word_of(h), response, next);
+        return refuse(img, h, response, next);
     };
     let p = request::body(request);
     let mut places = [0u32; sent::PLACES];
     let whole = sent::fill(p, &mut places);
     let v = judge(cmd, img, request, p, whole, &places);
     let Verdict::Pass(_) = v else {
-        return refuse(img, word_of(v), response, next);
+        return refuse(img, v, response, next);
     };
     answer(cmd, img, p, &places, draw, answers, response, next)
 }
@@ -261,17 +267,17 @@ fn ask_card(img: &[u8], request: &[u8], draw: &[u8], questions: &mut [u8]) -> Ou
 {
     let h = gate::header(request);
     let Verdict::Pass(cmd) = h else {
-        return told(word_of(h), 0);
+        return says(h, 0);
     };
     let p = request::body(request);
     let mut places = [0u32; sent::PLACES];
     let whole = sent::fill(p, &mut places);
     let v = judge(cmd, img, request, p, whole, &places);
     let Verdict::Pass(_) = v else {
-        return told(word_of(v), 0);
+        return says(v, 0);
     };
     let n = pose(cmd, img, p, &places, draw, questions);
-    told(Outcome::SW_PROCESS_COMPLETED, n as u32)
+    says(v, n as u32)
 }
 
 // Takes an image, a request and a draw; writes the questions for the crypto provider.

@@ -49,7 +49,7 @@ unfolding settledOf lent done
 settled-fine m i =
     by-outcome (λ s _. Fine (lent s (cardAfter s (decode m .codes) (i .request)) (i .buffers .out) (i .buffers .next)))
     (matched (decode m .codes) (sentIn (i .request))) (decode m .face) (i .request) (i .draw) (i .answers)
-    (λ w _ _. refl)
+    (λ _ _ _ _. refl)
     (λ _ _. refl)
     (λ _. refl)
     (λ _ _. refl)

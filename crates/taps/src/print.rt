@@ -36,9 +36,10 @@ fn put_bytes(out: &mut [u8], at: usize, v: &[u8]) -> usize {
 fn put_outcome(out: &mut [u8], letter: u8, o: Outcome) -> usize {
     let a = wire::put8(out, 0, letter);
     let b = put_number(out, a, wire::wide(o.number));
-    let c = wire::put8(out, b, lines::TAB);
-    let d = put_word(out, c, o.word);
-    put_number(out, d, o.length)
+    let c = put_number(out, b, wire::wide(o.reason));
+    let d = wire::put8(out, c, lines::TAB);
+    let e = put_word(out, d, o.word);
+    put_number(out, e, o.length)
 }
 
 // Of so many bytes, how many are written: none where the call ended with a number.

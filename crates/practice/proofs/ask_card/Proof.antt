@@ -5,7 +5,7 @@ use Rattle.card.specs.Image.{decode}
 use Rattle.manual.specs.Row.{asked}
 use Rattle.manual.specs.Commands.{row}
 use Rattle.manual.specs.Words.{swProcessCompleted}
-use Rattle.manual.specs.Settle.{wordOf, posed, posedBy, outcome}
+use Rattle.manual.specs.Settle.{wordOf, reasonOf, posed, posedBy, outcome}
 use Rattle.gate.proofs.Laws.{head-command}
 use Rattle.practice.proofs.Laws.{stopped, read-view, judged-read, asked-stop, asked-pass, sent-fields, posed-front, poses}
 use borrow.Author.Needs.{needs}
@@ -21,21 +21,17 @@ enum-known-h c = search needs
 enum-told : tie.Need-enum-told
 enum-told c = search needs
 
-word-of-requires : tie.Need-word-of-requires
-word-of-requires c κs = tt
-
-told-requires : tie.Need-told-requires
-told-requires c κs = tt
+says-requires : tie.Need-says-requires
+says-requires c κs = tt
 
 returns : tie.Need-returns
 returns c =
-    let w = c .before in
-    let t = w .before in
+    let t = c .before in
     let h = t .before .before in
     let x = h .before .before .before .before .before .args in
     let m = now (x .img) in
     let q = now (x .request) in
-    let e = c .told .ensures ∙ ap (λ z. outcome 0 z 0) (w .word-of .ensures ∙ ap wordOf (t .enum-told .given .1)) in
+    let e = c .says .ensures ∙ ap (λ z. outcome 0 (reasonOf z) (wordOf z) 0) (t .enum-told .given .1) in
     ap (λ r. posedBy r (now (x .questions))) e
     ∙ sym (asked-stop (decode m) q (now (x .draw)) (now (x .questions)) (stopped (decode m) q (h .header .ensures) (t .enum-told .given .1)))
 
@@ -54,16 +50,12 @@ enum-told-2 c = search needs
 enum-told-3 : tie.Need-enum-told-3
 enum-told-3 c = search needs
 
-word-of-requires-2 : tie.Need-word-of-requires-2
-word-of-requires-2 c κs = tt
-
-told-requires-2 : tie.Need-told-requires-2
-told-requires-2 c κs = tt
+says-requires-2 : tie.Need-says-requires-2
+says-requires-2 c κs = tt
 
 returns-2 : tie.Need-returns-2
 returns-2 c =
-    let w = c .before in
-    let t = w .before in
+    let t = c .before in
     let j = t .before .before in
     let f = j .before .before in
     let b = f .before .before in
@@ -72,15 +64,15 @@ returns-2 c =
     let x = h .before .before .before .before .before .args in
     let m = now (x .img) in
     let q = now (x .request) in
-    let e = c .told2 .ensures ∙ ap (λ z. outcome 0 z 0) (w .word-of2 .ensures ∙ ap wordOf (t .enum-told3 .given .1)) in
+    let e = c .says2 .ensures ∙ ap (λ z. outcome 0 (reasonOf z) (wordOf z) 0) (t .enum-told3 .given .1) in
     let g = judged-read q (h .header .ensures) (k .h .given .1) (b .body .ensures) (f .fill .ensures) (decode m) (j .judge .ensures) in
     ap (λ r. posedBy r (now (x .questions))) e ∙ sym (asked-stop (decode m) q (now (x .draw)) (now (x .questions)) (sym g ∙ t .enum-told3 .given .1))
 
 pose-requires : tie.Need-pose-requires
 pose-requires c κs = search needs
 
-cast-told : tie.Need-cast-told
-cast-told c =
+cast-says : tie.Need-cast-says
+cast-says c =
     let o = c .before .before in
     let t = o .before .before .before in
     let j = t .before .before in
@@ -100,8 +92,8 @@ cast-told c =
     let z = posed-front cmd m _ (now (x .draw)) (ap (row cmd .fields (decode m .face)) v ∙ ok) (o .pose .ensures) (s .pre .0) in
     omega (arith, z .1)
 
-told-requires-3 : tie.Need-told-requires-3
-told-requires-3 c κs = tt
+says-requires-3 : tie.Need-says-requires-3
+says-requires-3 c κs = tt
 
 same-length : tie.Need-same-length
 same-length c = search needs
@@ -127,8 +119,8 @@ returns-3 c =
     let ek = head-command q (h .header .ensures) (k .h .given .1) in
     let ok = sent-fields (decode m) q d u cmd ek (sym g ∙ t .enum-told2 .given .1) in
     let z = posed-front cmd m _ d (ap (row cmd .fields (decode m .face)) v ∙ ok) (o .pose .ensures) (s .pre .0) .0 in
-    poses swProcessCompleted (c .told3 .ensures) z
-    ∙ ap (λ y. posed swProcessCompleted (asked (row cmd .questions (decode m .face) y d)) u) v
+    poses 0 swProcessCompleted (c .says3 .ensures ∙ ap (λ y. outcome 0 (reasonOf y) (wordOf y) (o .pose .result)) (t .enum-told2 .given .1)) z
+    ∙ ap (λ y. posed 0 swProcessCompleted (asked (row cmd .questions (decode m .face) y d)) u) v
     ∙ sym (asked-pass (decode m) q d u cmd ek (sym g ∙ t .enum-told2 .given .1))
 
 pub ask-card-spec : {M : Type 1} → statement M
@@ -138,19 +130,17 @@ ask-card-spec =
     header-requires
     enum-known-h
     enum-told
-    word-of-requires
-    told-requires
+    says-requires
     returns
     body-requires
     fill-requires
     judge-requires
     enum-told-2
     enum-told-3
-    word-of-requires-2
-    told-requires-2
+    says-requires-2
     returns-2
     pose-requires
-    cast-told
-    told-requires-3
+    cast-says
+    says-requires-3
     same-length
     returns-3)

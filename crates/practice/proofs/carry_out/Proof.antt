@@ -52,7 +52,7 @@ returns c =
     let d = now (x .next) in
     let e = made-none (x .cmd) m v a d (s .pre .2) (g .made .ensures) (t .enum-told2 .given .1) (h .change .ensures) (s .pre .1) in
     rw (failed _ (t .enum-told2 .given .1) (b .confirmation .ensures))
-    (refuses (decode m) swErrorProcessingCommand (now (x .response)) d (w .word-alone .ensures .0) (w .word-alone .ensures .1) e)
+    (refuses (decode m) 13 swErrorProcessingCommand (now (x .response)) d (w .word-alone .ensures .0) (w .word-alone .ensures .1) e)
 
 word-requires : tie.Need-word-requires
 word-requires c κs = tt

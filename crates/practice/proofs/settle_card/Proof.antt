@@ -1,7 +1,7 @@
 use mathlib.Core.Path.{sym, ap, _∙_}
 use denote.Ref.{now}
 use Rattle.card.specs.Image.{decode}
-use Rattle.manual.specs.Settle.{wordOf, refused, lent}
+use Rattle.manual.specs.Settle.{wordOf, reasonOf, refused, lent}
 use Rattle.gate.proofs.Laws.{head-command}
 use Rattle.practice.specs.Carried.{answeredIn}
 use Rattle.practice.proofs.Laws.{stopped, read-view, judged-read, settled-stop, settled-pass}
@@ -18,9 +18,6 @@ enum-known-h c = search needs
 enum-told : tie.Need-enum-told
 enum-told c = search needs
 
-word-of-requires : tie.Need-word-of-requires
-word-of-requires c κs = tt
-
 refuse-requires : tie.Need-refuse-requires
 refuse-requires c κs = search needs
 
@@ -33,14 +30,13 @@ same-length-2 c = search needs
 returns : tie.Need-returns
 returns c =
     let r = c .before .before .before .before in
-    let w = r .before .before .before in
-    let t = w .before in
+    let t = r .before .before .before in
     let h = t .before .before in
     let x = h .before .before .before .before .before .before .before .args in
     let m = decode (now (x .img)) in
     let q = now (x .request) in
     r .refuse .ensures
-    ∙ ap (λ z. lent (refused z (m .face)) m (now (x .response)) (now (x .next))) (w .word-of .ensures ∙ ap wordOf (t .enum-told .given .1))
+    ∙ ap (λ z. lent (refused (reasonOf z) (wordOf z) (m .face)) m (now (x .response)) (now (x .next))) (t .enum-told .given .1)
     ∙ sym (settled-stop m q (now (x .draw)) (now (x .answers)) (now (x .response)) (now (x .next)) (stopped m q (h .header .ensures) (t .enum-told .given .1)))
 
 body-requires : tie.Need-body-requires
@@ -58,9 +54,6 @@ enum-told-2 c = search needs
 enum-told-3 : tie.Need-enum-told-3
 enum-told-3 c = search needs
 
-word-of-requires-2 : tie.Need-word-of-requires-2
-word-of-requires-2 c κs = tt
-
 refuse-requires-2 : tie.Need-refuse-requires-2
 refuse-requires-2 c κs = search needs
 
@@ -73,8 +66,7 @@ same-length-4 c = search needs
 returns-2 : tie.Need-returns-2
 returns-2 c =
     let r = c .before .before .before .before in
-    let w = r .before .before .before in
-    let t = w .before in
+    let t = r .before .before .before in
     let j = t .before .before in
     let f = j .before .before in
     let b = f .before .before in
@@ -85,7 +77,7 @@ returns-2 c =
     let q = now (x .request) in
     let g = judged-read q (h .header .ensures) (k .h .given .1) (b .body .ensures) (f .fill .ensures) m (j .judge .ensures) in
     r .refuse2 .ensures
-    ∙ ap (λ z. lent (refused z (m .face)) m (now (x .response)) (now (x .next))) (w .word-of2 .ensures ∙ ap wordOf (t .enum-told3 .given .1))
+    ∙ ap (λ z. lent (refused (reasonOf z) (wordOf z) (m .face)) m (now (x .response)) (now (x .next))) (t .enum-told3 .given .1)
     ∙ sym (settled-stop m q (now (x .draw)) (now (x .answers)) (now (x .response)) (now (x .next)) (sym g ∙ t .enum-told3 .given .1))
 
 answer-requires : tie.Need-answer-requires
@@ -125,7 +117,6 @@ settle-card-spec =
     header-requires
     enum-known-h
     enum-told
-    word-of-requires
     refuse-requires
     same-length
     same-length-2
@@ -135,7 +126,6 @@ settle-card-spec =
     judge-requires
     enum-told-2
     enum-told-3
-    word-of-requires-2
     refuse-requires-2
     same-length-3
     same-length-4
