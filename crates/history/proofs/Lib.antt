@@ -12,8 +12,10 @@ pub mod Next
 pub mod Images
 pub mod Agrees
 pub mod Theorems
+pub mod Reasons
 pub mod Corollaries
 pub mod Notes
 pub mod Story
 pub mod Rejected
 pub mod Proud
+pub mod Mute
