@@ -107,7 +107,7 @@ def report_jobs(report: Report, outcomes: list):
 def report_reached(report: Report, taps: int, tapped, others):
     """What the taps reached is counted of them alone."""
     print("\n" + tables(tapped) + "\n")
-    made = sum(times for key, times in tapped.items() if key[:2] == ("number", "settle"))
+    made = tapped["call", "settle"]
     report.check(f"{made} taps", made >= taps)
     missing, surplus = never(tapped), beyond(tapped)
     report.check("every command, check, number, status word and end of a range was reached", not missing, "; ".join(missing))

@@ -6,7 +6,6 @@ from twin.proved import NUMBER, RESULT, Gone, Proved
 from twin.reached import Reached
 
 ROOMS = (twin.QUESTIONS_ROOM, twin.RESPONSE_ROOM, twin.IMAGE_ROOM)
-REASON = 0  # what the C face says for now, whichever check refused
 
 
 class Differs(Exception):
@@ -47,20 +46,20 @@ class Pair:
         questions = self.lent(room)
         asked = twin.ask(image, request, draw, room)
         written = len(asked.questions)
-        expected = RESULT.pack(asked.number, REASON, asked.word, written) + asked.questions + questions[written:]
+        expected = RESULT.pack(asked.number, asked.reason, asked.word, written) + asked.questions + questions[written:]
         self.compare(expected, self.proved.ask, (image, request, draw, questions), "image request draw questions")
-        self.reached.number("ask", asked.number)
+        self.reached.called("ask", request, asked)
         return asked
 
     def settle(self, image, request, draw, answers, response_room, next_room) -> twin.Settled:
         response, following = self.lent(response_room), self.lent(next_room)
         settled = twin.settle(image, request, draw, answers, response_room, next_room)
         written, left = len(settled.response), settled.image or b""
-        expected = (RESULT.pack(settled.number, REASON, settled.word, written)
+        expected = (RESULT.pack(settled.number, settled.reason, settled.word, written)
                     + settled.response + response[written:] + left + following[len(left) :])
         self.compare(expected, self.proved.settle, (image, request, draw, answers, response, following),
                      "image request draw answers response next")
-        self.reached.settled(request, settled)
+        self.reached.called("settle", request, settled)
         return settled
 
     def personalise(self, sheet: bytes, room: int) -> int:

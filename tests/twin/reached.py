@@ -10,9 +10,21 @@ from twin.bench import (
 from twin.image import EMPTY, LOADED, PURGED, TOP_16, TOP_32, Card
 from twin.request import fields_of, payload_of
 
-CHECKS = range(1, 14)
-NUMBERS = {"ask": range(4), "settle": range(5)}
-WORDS = (0x9000, 0x9001, 0x9002, 0x9003, 0x6286, 0x6700, 0x6982, 0x6985, 0x6A86, 0x6D00, 0x6E00)
+
+class Call(NamedTuple):
+    """What a call can come to: what it has where no check fails, the checks that refuse in it, its numbers, its status words."""
+
+    passed: str
+    checks: range
+    numbers: range
+    words: tuple
+
+
+REFUSALS = (0x6700, 0x6982, 0x6985, 0x6A86, 0x6D00, 0x6E00)
+CALLS = {
+    "ask": Call("passed", range(1, 13), range(1, 4), (0x9000, *REFUSALS)),
+    "settle": Call("done", range(1, 14), range(1, 5), (0x9000, 0x9001, 0x9002, 0x9003, 0x6286, *REFUSALS)),
+}
 NOT_ACTIVATED = 0
 STATES = {NOT_ACTIVATED: "not activated", **STATUSES}
 
@@ -127,18 +139,15 @@ class Reached:
     def __init__(self):
         self.times = Counter()
 
-    def number(self, call: str, number: int):
-        self.times["number", call, number] += 1
-
-    def settled(self, request: bytes, settled):
-        """Every call of settle, whatever it came to."""
+    def called(self, call: str, request: bytes, result):
+        """Every call of ask and of settle, whatever it came to."""
         row = row_of(request)
-        self.number("settle", settled.number)
-        if settled.number:
-            self.times["number of", row, settled.number] += 1
+        self.times["call", call] += 1
+        if result.number:
+            self.times["number", call, row, result.number] += 1
             return
-        self.times["word", settled.word] += 1
-        self.times["reason", row, settled.reason] += 1
+        self.times["word", call, result.word] += 1
+        self.times["reason", call, row, result.reason] += 1
 
     def tapped(self, request: bytes, reason: int, before: Card, after: Card):
         """A tap on a card, done or refused."""
@@ -174,12 +183,12 @@ def name_of(row) -> str:
     return NAMES.get(row, row)
 
 
-def by_check(times: Counter) -> str:
-    """Commands against what settle came to: done, the check that refused, the number."""
-    head = ["", "done", *(f"chk {check}" for check in CHECKS), *(f"no. {number}" for number in range(1, 5))]
-    rows = [[name_of(row), cell(times, ("reason", row, 0), row in NAMES),
-             *(cell(times, ("reason", row, check), check in refusals) for check in CHECKS),
-             *(cell(times, ("number of", row, number), number < 4 or row in NAMES) for number in range(1, 5))]
+def by_check(times: Counter, name: str, call: Call) -> str:
+    """Commands against what a call came to: no check failed, the check that refused, the number."""
+    head = [name, call.passed, *(f"chk {check}" for check in call.checks), *(f"no. {number}" for number in call.numbers)]
+    rows = [[name_of(row), cell(times, ("reason", name, row, 0), row in NAMES),
+             *(cell(times, ("reason", name, row, check), check in refusals) for check in call.checks),
+             *(cell(times, ("number", name, row, number), number < 4 or row in NAMES) for number in call.numbers)]
             for row, refusals in REFUSED_BY.items()]
     return table(head, rows)
 
@@ -192,9 +201,9 @@ def by_state(times: Counter) -> str:
     return table(head, rows)
 
 
-def by_word(times: Counter) -> str:
-    head = ["status word", *(f"{word:04X}" for word in WORDS)]
-    return table(head, [["times", *(str(times["word", word]) for word in WORDS)]])
+def by_word(times: Counter, name: str, call: Call) -> str:
+    head = [f"{name}'s status word", *(f"{word:04X}" for word in call.words)]
+    return table(head, [["times", *(str(times["word", name, word]) for word in call.words)]])
 
 
 def by_end(times: Counter) -> str:
@@ -202,27 +211,34 @@ def by_end(times: Counter) -> str:
 
 
 def tables(times: Counter) -> str:
-    return "\n\n".join((by_check(times), by_state(times), by_word(times), by_end(times)))
+    of_calls = [by(times, *call) for by in (by_check, by_word) for call in CALLS.items()]
+    return "\n\n".join((*of_calls, by_state(times), by_end(times)))
 
 
 # ---------------------------------------------------------------- what was to be reached
 
 
+def wanted_of(name: str, call: Call) -> dict:
+    """What has to be reached in a call."""
+    keys = {("word", name, word): f"{name}'s status word {word:04X}" for word in call.words}
+    for row, refusals in REFUSED_BY.items():
+        keys |= {("reason", name, row, check): f"{name}: {name_of(row)} refused by check {check}"
+                 for check in refusals & {*call.checks}}
+    for ins, command in NAMES.items():
+        keys["reason", name, ins, 0] = f"{name}: {command} {call.passed}"
+        keys |= {("number", name, ins, number): f"{name}: {command} with number {number}" for number in call.numbers}
+    return keys
+
+
 def wanted() -> dict:
     """What has to be reached, by key, in words."""
     keys = {}
-    for row, refusals in REFUSED_BY.items():
-        keys |= {("reason", row, check): f"{name_of(row)} refused by check {check}" for check in refusals}
-    for ins, name in NAMES.items():
-        keys["reason", ins, 0] = f"{name} done"
-        keys |= {("number of", ins, number): f"{name} with number {number}" for number in range(1, 5)}
+    for name, call in CALLS.items():
+        keys |= {("call", name): f"a call of {name}"} | wanted_of(name, call)
     for state, commands in DONE_IN.items():
         keys |= {("done in", ins, state, curve): f"{NAMES[ins]} done, {STATES[state]}, {CURVES[curve]}"
                  for ins in commands for curve in CURVES}
-    keys |= {("word", word): f"status word {word:04X}" for word in WORDS}
-    keys |= {("number", call, number): f"{call}'s number {number}" for call, numbers in NUMBERS.items() for number in numbers}
-    keys |= {("end", end.name): end.name for end in ENDS}
-    return keys
+    return keys | {("end", end.name): end.name for end in ENDS}
 
 
 def never(times: Counter) -> list:
@@ -232,5 +248,5 @@ def never(times: Counter) -> list:
 
 def beyond(times: Counter) -> list:
     """What was reached and cannot be, by the tables above."""
-    known = set(wanted()) | {("number of", row, number) for row in (OTHER, NONE) for number in range(1, 5)}
+    known = set(wanted()) | {("number", name, row, number) for name in CALLS for row in (OTHER, NONE) for number in (1, 2, 3)}
     return [str(key) for key in times if times[key] and key not in known]
