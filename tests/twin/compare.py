@@ -20,7 +20,7 @@ from twin.pair import Differs, Pair
 from twin.proved import Proved
 from twin.reached import Reached, beyond, never, tables
 from twin.sheet import AFTER_SHEET, NO_ROOM
-from twin.sweeps import image_lengths, images, rooms, sheet_bytes, sheets
+from twin.sweeps import codes, image_lengths, images, rooms, sheet_bytes, sheets
 
 DIFFERENCES_SHOWN = 3
 
@@ -58,7 +58,8 @@ def run(job: Job) -> Outcome:
 
 
 def jobs(taps: int) -> list:
-    kinds = ((histories, -(-taps // TAPS_IN_A_JOB)), (images, 12), (image_lengths, 1), (rooms, 2), (sheets, 10), (sheet_bytes, 2))
+    kinds = ((histories, -(-taps // TAPS_IN_A_JOB)), (images, 12), (image_lengths, 1), (rooms, 2), (codes, 2), (sheets, 10),
+             (sheet_bytes, 2))
     return [Job(work, at) for work, count in kinds for at in range(count)]
 
 
@@ -91,6 +92,7 @@ TITLES = {
     images: "images damaged byte by byte",
     image_lengths: "images of every length up to 4,096",
     rooms: "lent buffers of every short length",
+    codes: "codes right, wrong, of another length and absent, together",
     sheets: "sheets by chance",
     sheet_bytes: "a sheet damaged byte by byte, and every short buffer for its image",
 }

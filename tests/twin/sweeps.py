@@ -1,11 +1,13 @@
-"""What is gone through place by place: images, lent buffers, sheets."""
+"""What is gone through place by place: images, lent buffers, codes, sheets."""
+
+from itertools import product
 
 from twin import card as twin
-from twin.bench import NAMES, READ_CARD, Provider, plain
+from twin.bench import CID, CREATE_WALLET, CURVES, CVC, NAMES, OWN_FIELDS, PIN1, PIN2, READ_CARD, Provider, full, off_by_last, plain
 from twin.chance import any_card
 from twin.chance_requests import good_draft
 from twin.chance_sheets import damaged_sheet, good_sheet
-from twin.image import Card, encode
+from twin.image import EMPTY, LOADED, Card, encode
 from twin.pair import ROOMS, Pair
 from twin.request import Tag
 
@@ -63,6 +65,23 @@ def rooms(pair: Pair):
             pair.settle(image, request, draw, answers, length, enough[2])
             pair.settle(image, request, draw, answers, length, length)
         pair.settle(image, request, draw, answers, enough[1], length)
+
+
+def sendings(tag: int, code: bytes) -> list:
+    """A code right, wrong, too short, too long, empty, absent: the fields that it is sent in."""
+    return [((tag, sent),) for sent in (code, off_by_last(code), code[:-1], code + b"\0", b"")] + [()]
+
+
+def codes(pair: Pair):
+    """Every command with PIN1, PIN2 and CVC sent in every way, with the fields that it takes and without."""
+    curve, draw = pair.chance.choice(list(CURVES)), pair.chance.randbytes(32)
+    sent = list(product(sendings(Tag.PIN1, PIN1), sendings(Tag.PIN2, PIN2), sendings(Tag.CVC, CVC)))
+    for ins, own in OWN_FIELDS.items():
+        image = encode(full(EMPTY if ins == CREATE_WALLET else LOADED, curve, cvc_used=1))
+        for (pin1, pin2, cvc), fields in product(sent, (own, ())):
+            request = plain(ins, *pin1, (Tag.CID, CID), *pin2, *cvc, *fields)
+            asked = pair.ask(image, request, draw, ROOMS[0])
+            pair.settle(image, request, draw, Provider().answers(asked.questions), *ROOMS[1:])
 
 
 def sheets(pair: Pair):
