@@ -21,7 +21,7 @@
 extern "C" {
 #endif
 
-/* How a call ended: `number` of its result. With any but PRACTICE_DONE word and length are 0, and every buffer is as it was. */
+/* How a call ended: `number` of its result. With any but PRACTICE_DONE reason, word and length are 0, and every buffer is as it was. */
 enum {
     PRACTICE_DONE = 0,
     PRACTICE_NO_CARD = 1,   /* the image is no card */
@@ -43,6 +43,26 @@ enum {
     PRACTICE_SW_INVALID_PARAMS = 0x6A86,    /* a code, the CID or a field is absent, wrong or malformed */
     PRACTICE_SW_INS_NOT_SUPPORTED = 0x6D00, /* no such command */
     PRACTICE_SW_CLA_NOT_SUPPORTED = 0x6E00  /* no such class */
+};
+
+/* Which check refused: `reason` of a result. The card makes its checks in this order, and the first to fail decides. 0 where none did:
+ * with 9000 to 9003, and with a number other than PRACTICE_DONE. practice_ask makes the first twelve and practice_settle all of them, so
+ * that practice_ask never says PRACTICE_CHECK_ISSUER: it has 0 for whatever passes the others. Each has one status word, but for
+ * PRACTICE_CHECK_P1_P2. A real card keeps the reason to itself: no byte of a response tells it. */
+enum {
+    PRACTICE_CHECK_LENGTH = 1,     /* the length of the request, or its Lc */
+    PRACTICE_CHECK_CLASS = 2,      /* the class is not 00 */
+    PRACTICE_CHECK_COMMAND = 3,    /* no such command */
+    PRACTICE_CHECK_P1_P2 = 4,      /* P1 or P2 is not 00 (P2 01 or 02: no encrypted session is open) */
+    PRACTICE_CHECK_PAYLOAD = 5,    /* the payload does not end at a field's end */
+    PRACTICE_CHECK_PIN1 = 6,       /* PIN1 is absent or is not the card's */
+    PRACTICE_CHECK_CID = 7,        /* the CID is absent or is not the card's */
+    PRACTICE_CHECK_ACTIVATED = 8,  /* the card is not activated */
+    PRACTICE_CHECK_STATUS = 9,     /* the card's Status does not allow the command */
+    PRACTICE_CHECK_PIN2_CVC = 10,  /* PIN2 or the CVC is absent or is not the card's */
+    PRACTICE_CHECK_FIELDS = 11,    /* a field of the command is absent or not as it has to be */
+    PRACTICE_CHECK_CONDITION = 12, /* a condition of the command is not met */
+    PRACTICE_CHECK_ISSUER = 13     /* the issuer did not sign this */
 };
 
 /* What a question wants: its first byte. Beside each what answers it. */
@@ -67,7 +87,7 @@ enum {
 /* What a call returns.
  *
  *   number  how it ended
- *   reason  0 for now.
+ *   reason  the check that refused, 0 where none did
  *   word    the status word
  *   length  the bytes written to the buffer for questions, or for the response. Bytes after them are as they were. */
 typedef struct {
