@@ -28,6 +28,7 @@ complaint exchange_settle(const uint8_t *image, const uint8_t *request, size_t l
     practice_result settled = practice_settle(image, practice_image_length(), request, length, draw, PRACTICE_DRAW, tap->answers,
                                               tap->answers_len, tap->response, sizeof tap->response, tap->next, sizeof tap->next);
     tap->response_len = settled.length;
+    tap->reason = settled.reason;
     return by_number("practice_settle", settled);
 }
 

@@ -17,6 +17,7 @@ typedef struct {
     size_t answers_len;
     uint8_t response[PRACTICE_ROOM];
     size_t response_len;
+    uint8_t reason; /* the check that refused, 0 where none did */
     uint8_t next[PRACTICE_IMAGE_ROOM]; /* practice_image_length() bytes of it are the card after the tap */
 } exchange;
 

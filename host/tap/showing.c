@@ -31,6 +31,8 @@ void show_lines(const tap *t)
     }
     show_hex('<', t->got.response, t->got.response_len);
     response_print(stdout, t->sent.bytes, t->sent.length, t->got.response, t->got.response_len);
+    if (t->got.reason != 0)
+        response_print_check(stdout, t->got.reason);
     changes_print(stdout, t->before, t->got.next);
 }
 
@@ -83,10 +85,22 @@ static void show_words(int first, const tap *t)
     show_lines(t);
 }
 
+static void show_check(uint8_t reason)
+{
+    if (reason == 0) {
+        fputs(",\"check\":null", stdout);
+        return;
+    }
+    printf(",\"check\":{\"number\":%u", reason);
+    show_string("meaning", words_reason(reason));
+    putchar('}');
+}
+
 static void show_object(const tap *t)
 {
     putchar('{');
     show_members(t);
+    show_check(t->got.reason);
     puts("}");
 }
 

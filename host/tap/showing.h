@@ -14,13 +14,14 @@ typedef struct {
     exchange got;
 } tap;
 
-/* The lines of a tap below its command: request, response, fields, status word, changes. A response of no bytes stands for number 4. */
+/* The lines of a tap below its command: request, response, fields, status word, the check that refused, changes. A response of no bytes
+ * stands for number 4. */
 void show_lines(const tap *t);
 
 /* A mark, and bytes in hex. */
 void show_hex(char mark, const uint8_t *bytes, size_t length);
 
-/* The members of a tap's JSON object, without the braces. */
+/* The members of a tap's JSON object that a play has too, without the braces. */
 void show_members(const tap *t);
 
 /* Prints the tap as the settings want it. All but the first of several are set off by an empty line. */

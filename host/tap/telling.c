@@ -92,7 +92,8 @@ static complaint tell_bad_line(play *p, char **parts)
 
 /* ---- a tap ---- */
 
-/* The tap again, for the card before and after it. Answers that do not fit leave no response, and the card as it was. */
+/* The tap again, for the card before and after it. Answers that do not fit leave no response, and the card as it was. The reason of a
+ * refusal is left out: a play tells what stands in the recording, and no recording has it. */
 static complaint replay(play *p, const tapline *read, tap *t)
 {
     size_t length = practice_image_length();

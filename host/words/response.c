@@ -45,3 +45,11 @@ void response_print(FILE *out, const uint8_t *request, size_t request_len, const
         fputs("   the response ends inside a field\n", out);
     print_status(out, words_status_of((uint16_t)value_number(response + end, STATUS_WORD), request, request_len));
 }
+
+void response_print_check(FILE *out, uint8_t reason)
+{
+    char name[10];
+    snprintf(name, sizeof name, "check %u", reason);
+    response_start(out, "", name);
+    fprintf(out, "%s\n", words_reason(reason));
+}

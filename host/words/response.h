@@ -15,4 +15,7 @@ void response_start(FILE *out, const char *mark, const char *name);
 /* A line for each field and one for the status word. The request is that which was answered; it may be empty. */
 void response_print(FILE *out, const uint8_t *request, size_t request_len, const uint8_t *response, size_t response_len);
 
+/* The line below a refusal's status word: which check it was. No response has it in its bytes. */
+void response_print_check(FILE *out, uint8_t reason);
+
 #endif

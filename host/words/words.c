@@ -65,6 +65,22 @@ static const words_status statuses[] = {
     {PRACTICE_SW_CLA_NOT_SUPPORTED, "SW_CLA_NOT_SUPPORTED", "refused: no such class"},
 };
 
+static const char *const reasons[] = {
+    [PRACTICE_CHECK_LENGTH] = "the length of the request, or its Lc",
+    [PRACTICE_CHECK_CLASS] = "the class is not 00",
+    [PRACTICE_CHECK_COMMAND] = "no such command",
+    [PRACTICE_CHECK_P1_P2] = "P1 or P2 is not 00 (P2 01 or 02: no encrypted session is open)",
+    [PRACTICE_CHECK_PAYLOAD] = "the payload does not end at a field's end",
+    [PRACTICE_CHECK_PIN1] = "PIN1 is absent or is not the card's",
+    [PRACTICE_CHECK_CID] = "the CID is absent or is not the card's",
+    [PRACTICE_CHECK_ACTIVATED] = "the card is not activated",
+    [PRACTICE_CHECK_STATUS] = "the card's Status does not allow the command",
+    [PRACTICE_CHECK_PIN2_CVC] = "PIN2 or the CVC is absent or is not the card's",
+    [PRACTICE_CHECK_FIELDS] = "a field of the command is absent or not as it has to be",
+    [PRACTICE_CHECK_CONDITION] = "a condition of the command is not met",
+    [PRACTICE_CHECK_ISSUER] = "the issuer did not sign this",
+};
+
 const char *words_command(const uint8_t *request, size_t length)
 {
     for (size_t at = 0; length >= 2 && at < COUNT(commands); at++)
@@ -94,4 +110,9 @@ words_status words_status_of(uint16_t word, const uint8_t *request, size_t reque
         if (statuses[at].word == word)
             return statuses[at];
     return (words_status){word, WORDS_UNKNOWN, "no status word of this card"};
+}
+
+const char *words_reason(uint8_t reason)
+{
+    return reason > 0 && reason < COUNT(reasons) ? reasons[reason] : WORDS_UNKNOWN;
 }

@@ -1,4 +1,4 @@
-/* Names: of commands, fields and status words. */
+/* Names: of commands, fields, status words and reasons. */
 #ifndef WORDS_H
 #define WORDS_H
 
@@ -32,5 +32,8 @@ typedef struct {
 
 /* The request is looked at because 9000 after SET_PIN has a name of its own; it may be empty. */
 words_status words_status_of(uint16_t word, const uint8_t *request, size_t request_len);
+
+/* What the check of this number refuses, in words; "?" where there is no such check. */
+const char *words_reason(uint8_t reason);
 
 #endif
