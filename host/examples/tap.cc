@@ -14,6 +14,12 @@
 
 using bytes = std::vector<std::uint8_t>;
 
+// What a tap gives: the response, and the check that refused, 0 where none did (PRACTICE_CHECK_LENGTH and so on).
+struct answer {
+    bytes response;
+    int reason;
+};
+
 // A card in a reader. The image is the card, and all that is kept of it.
 class card {
 public:
@@ -25,7 +31,7 @@ public:
         image.resize(practice_image_length());
     }
 
-    bytes tap(const bytes &request)
+    answer tap(const bytes &request)
     {
         bytes draw(PRACTICE_DRAW), questions(PRACTICE_ROOM), answers(PROVIDER_ROOM), response(PRACTICE_ROOM), next(PRACTICE_IMAGE_ROOM);
         const std::uint8_t *cid = practice_view(image.data(), PRACTICE_VIEW_CID).bytes;
@@ -44,10 +50,10 @@ public:
             throw std::runtime_error("no tap");
         image.assign(next.begin(), next.begin() + image.size());
         response.resize(done.length);
-        return response;
+        return {response, done.reason};
     }
 
-    bytes create_wallet()
+    answer create_wallet()
     {
         bytes request(PRACTICE_REQUEST_ROOM);
         practice_codes codes = practice_codes_of(image.data());
@@ -67,9 +73,13 @@ int main()
     std::string sheet(std::istreambuf_iterator<char>(std::cin), {});
     try {
         card one(sheet);
-        for (int byte : one.create_wallet())
+        answer created = one.create_wallet();
+        for (int byte : created.response)
             std::printf("%02X", byte);
-        std::printf("\nRemaining %u\n", one.remaining());
+        std::printf("\n");
+        if (created.reason != 0)
+            std::printf("refused by check %d\n", created.reason);
+        std::printf("Remaining %u\n", one.remaining());
     } catch (const std::exception &wrong) {
         std::cerr << wrong.what() << '\n';
         return 1;
