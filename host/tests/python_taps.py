@@ -7,6 +7,7 @@ import signal
 import sys
 import threading
 
+from reasons import REASONS
 from rig import ROOT, SHEETS, check, end, fields, same
 
 sys.path.insert(0, str(ROOT / "host" / "python"))
@@ -19,7 +20,7 @@ from twin.chance_requests import any_request
 from twin.chance_sheets import damaged_sheet, good_sheet
 from twin.histories import answers_by_chance, lent_by_chance
 from twin.image import decode, encode
-from twin.recording import Play, lines_of, parts_of
+from twin.recording import lines_of, parts_of
 
 TAPS = int(os.environ.get("TAPS", "600"))
 WAY = os.environ["MERELSTOF_WAY"]
@@ -40,12 +41,13 @@ def named(words: str) -> str:
     return f"{WAY}: {words}"
 
 
-def tapped(card: Card, request: bytes, draw: bytes) -> str:
-    """The response as a recording has it."""
+def tapped(card: Card, request: bytes, draw: bytes) -> tuple:
+    """The response as a recording has it, and the reason, which no recording has."""
     try:
-        return card.tap(request, draw).bytes.hex().upper()
+        response = card.tap(request, draw)
+        return response.bytes.hex().upper(), response.reason
     except WrongAnswers:
-        return "4"
+        return "4", 0
 
 
 def lessons():
@@ -53,11 +55,12 @@ def lessons():
         lines = lines_of(path.read_bytes())
         provider = Given()
         card = Card.from_sheet(b"".join(lines[:13]), provider)
-        play, different = Play(card.image), []
+        image, different = card.image, []
         for number, line in enumerate(lines[13:], 1):
             request, draw, provider.answers, expected = parts_of(line)
-            play.tap(request, draw, provider.answers)
-            if tapped(card, request, draw) != expected or card.image != play.image:
+            settled = twin.settle(image, request, draw, provider.answers)
+            image = settled.image or image
+            if (*tapped(card, request, draw), card.image) != (expected, settled.reason, image):
                 different.append(number)
         check(named(f"{path.stem}: {len(lines) - 13} taps as they were recorded"), len(lines) > 20 and not different, str(different))
 
@@ -80,12 +83,13 @@ def response_of(response) -> dict:
     return {"word": response.word, **{field.tag: field.value for field in response.fields}}
 
 
-def one_tap(chance: Chance, image: bytes, times: dict) -> bytes:
+def one_tap(chance: Chance, image: bytes, reached: set) -> bytes:
     """A tap by the package and by the twin; the image that it left."""
     request, lent, provider = any_request(chance, decode(image)), lent_by_chance(chance, image), Given()
     asked = twin.ask(lent.image, request, lent.draw)
     provider.answers = answers_by_chance(chance, asked.questions)
     settled = twin.settle(lent.image, request, lent.draw, provider.answers)
+    assert library().ask(lent.image, request, lent.draw) == asked, "the result of ask, its reason with it, or the questions"
     try:
         card = Card.from_image(lent.image, provider)
         assert read_off(card) == tuple(decode(lent.image)), "a value of the image"
@@ -93,26 +97,28 @@ def one_tap(chance: Chance, image: bytes, times: dict) -> bytes:
         assert (response.bytes, card.image) == (settled.response, settled.image), "the response, or the next image"
         assert response_of(response) == fields(settled.response), "the fields"
         assert asked_again(provider.asked) == asked.questions, "the questions"
+        assert (response.reason, response.why) == (settled.reason, REASONS.get(settled.reason, "")), "the reason, or its words"
         assert response.ok == (settled.reason == 0) == (not response.refused), "ok and refused"
     except NoTap as why:
         number = why.number
         assert number in (1, 3) or card.image == image, "the image after no tap"
     assert number == settled.number, f"number {number} for {settled.number}"
-    times[number] = times.get(number, 0) + 1
+    reached |= {("number", number), ("reason", settled.reason)}
     return settled.image or image
 
 
 def by_chance():
-    chance, times, image = Chance("python"), {}, b""
+    chance, reached, image = Chance("python"), set(), b""
     for at in range(TAPS):
         if at % 30 == 0:
             image = encode(any_card(chance))
         try:
-            image = one_tap(chance, image, times)
+            image = one_tap(chance, image, reached)
         except AssertionError as differs:
             check(named(f"tap {at} by chance"), False, f"{differs}")
             return
-    check(named(f"{TAPS} taps by chance as the twin answers"), set(times) == {0, 1, 3, 4}, f"numbers reached: {times}")
+    wanted = {("number", number) for number in (0, 1, 3, 4)} | {("reason", reason) for reason in (0, *REASONS)}
+    check(named(f"{TAPS} taps by chance as the twin answers"), reached == wanted, f"not reached: {sorted(wanted - reached)}")
 
 
 def one_sheet(sheet: bytes) -> tuple:

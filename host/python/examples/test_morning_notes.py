@@ -52,6 +52,7 @@ def test_a_refusal_uses_nothing_up(wallet):
     before = wallet.image
     refused = wallet.tap(sign(wallet, CHECKS, pin2=sha256("1234")))
     assert refused.refused and refused.name == "SW_INVALID_PARAMS"
+    assert (refused.reason, refused.why) == (10, "PIN2 or the CVC is absent or is not the card's")
     assert wallet.image == before
 
 

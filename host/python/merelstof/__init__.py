@@ -12,7 +12,7 @@ MadeUp needs nothing and signs nothing that verifies. The practice keys of docs/
 
 from .card import BadSheet, Card, NoRoom, NotACard, NoTap, WrongAnswers, WrongDraw
 from .library import NoLibrary
-from .names import COMMANDS, TAGS, WORDS
+from .names import COMMANDS, REASONS, TAGS, WORDS
 from .providers import MadeUp, Provider, Question
 from .requests import (
     Codes, check_wallet, command, create_wallet, purge_wallet, read_card, read_issuer_data, read_user_data, set_pin, sha256, sign,

@@ -122,7 +122,7 @@ class Card(View):
             settled = self._library.settle(self._image, request, draw, answers)
             tell(settled.number)
             self._image = settled.image
-        return Response(settled.response, request[1] if len(request) > 1 else 0)
+        return Response(settled.response, request[1] if len(request) > 1 else 0, settled.reason)
 
     def _draw(self) -> bytes:
         return os.urandom(32) if self.seed is None else draw_of(self.seed, self._taps)

@@ -31,6 +31,7 @@ class NoLibrary(OSError):
 
 class Asked(NamedTuple):
     number: int
+    reason: int
     word: int
     questions: bytes
 
@@ -39,6 +40,7 @@ class Settled(NamedTuple):
     """With a number other than 0 there is neither a response nor a next image."""
 
     number: int
+    reason: int
     word: int
     response: bytes
     image: bytes
@@ -67,12 +69,12 @@ class Library:
     """The calls, over bytes. host/link/practice.h says what each means."""
 
     def ask(self, image: bytes, request: bytes, draw: bytes) -> Asked:
-        number, _, word, length, questions = self.call(ASK, image, request, draw)
-        return Asked(number, word, questions[:length])
+        number, reason, word, length, questions = self.call(ASK, image, request, draw)
+        return Asked(number, reason, word, questions[:length])
 
     def settle(self, image: bytes, request: bytes, draw: bytes, answers: bytes) -> Settled:
-        number, _, word, length, response, following = self.call(SETTLE, image, request, draw, answers)
-        return Settled(number, word, response[:length], following[: self.image_length] if number == 0 else b"")
+        number, reason, word, length, response, following = self.call(SETTLE, image, request, draw, answers)
+        return Settled(number, reason, word, response[:length], following[: self.image_length] if number == 0 else b"")
 
     def personalise(self, sheet: bytes) -> tuple:
         """The number of the first bad line, or 0 and the fresh card's image."""

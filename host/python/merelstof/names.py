@@ -1,4 +1,4 @@
-"""The paper's names: commands by INS, fields by tag, status words."""
+"""The paper's names: commands by INS, fields by tag, status words. And the card's checks in words."""
 
 COMMANDS = {
     0xF2: "READ_CARD",
@@ -61,6 +61,23 @@ WORDS = {
     0x6A86: "SW_INVALID_PARAMS",
     0x6D00: "SW_INS_NOT_SUPPORTED",
     0x6E00: "SW_CLA_NOT_SUPPORTED",
+}
+
+# What each of the card's checks refuses, in the order in which it makes them.
+REASONS = {
+    1: "the length of the request, or its Lc",
+    2: "the class is not 00",
+    3: "no such command",
+    4: "P1 or P2 is not 00 (P2 01 or 02: no encrypted session is open)",
+    5: "the payload does not end at a field's end",
+    6: "PIN1 is absent or is not the card's",
+    7: "the CID is absent or is not the card's",
+    8: "the card is not activated",
+    9: "the card's Status does not allow the command",
+    10: "PIN2 or the CVC is absent or is not the card's",
+    11: "a field of the command is absent or not as it has to be",
+    12: "a condition of the command is not met",
+    13: "the issuer did not sign this",
 }
 
 SET_PIN = 0xFA

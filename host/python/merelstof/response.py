@@ -1,8 +1,8 @@
 """What a card answers: fields, and after them the status word."""
 
-from typing import NamedTuple, Tuple, Union
+from typing import NamedTuple, Optional, Tuple, Union
 
-from .names import DONE, TAGS, word_name
+from .names import DONE, REASONS, TAGS, word_name
 
 
 class Field(NamedTuple):
@@ -27,10 +27,15 @@ def fields_of(payload: bytes) -> Tuple[Field, ...]:
 
 
 class Response:
-    """`bytes` is the response as it came. A field's value stands under its tag and under its name: response["Remaining"]."""
+    """`bytes` is the response as it came. A field's value stands under its tag and under its name: response["Remaining"].
 
-    def __init__(self, response: bytes, ins: int = 0):
+    `reason` is the number of the check that refused, 0 where none did. No byte of a response tells it: of one that is made from its
+    bytes alone, as a reader gives them, it is None; and responses with the same bytes are equal, whatever their reasons.
+    """
+
+    def __init__(self, response: bytes, ins: int = 0, reason: Optional[int] = None):
         self.bytes = response
+        self.reason = reason
         self.word = int.from_bytes(response[-2:], "big")
         self.name = word_name(self.word, ins)
         self.fields = fields_of(response[:-2])
@@ -43,6 +48,11 @@ class Response:
     def refused(self) -> bool:
         """The card is as it was before."""
         return not self.ok
+
+    @property
+    def why(self) -> str:
+        """The reason in words; empty where there is none, or none is known."""
+        return REASONS.get(self.reason, "?") if self.reason else ""
 
     def __getitem__(self, key: Union[int, str]) -> bytes:
         for field in self.fields:
@@ -63,4 +73,5 @@ class Response:
         return hash(self.bytes)
 
     def __repr__(self) -> str:
-        return f"<Response {self.word:04X} {self.name}{''.join(f', {field}' for field in self.fields)}>"
+        check = f", check {self.reason}: {self.why}" if self.reason else ""
+        return f"<Response {self.word:04X} {self.name}{check}{''.join(f', {field}' for field in self.fields)}>"
