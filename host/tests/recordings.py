@@ -25,5 +25,16 @@ def played(recording: bytes) -> tuple:
     return responses, image
 
 
+def reasons_of(recording: bytes) -> list:
+    """The twin's reason of each tap, which stands in no recording. A tap that came to nothing (4) has 0."""
+    _, image = personalise(b"".join(recording.splitlines(keepends=True)[:SHEET_LINES]))
+    reasons = []
+    for line in taps_of(recording):
+        done = settle(image, *map(bytes.fromhex, line.split("\t")[:3]))
+        reasons.append(done.reason)
+        image = done.image or image
+    return reasons
+
+
 def image_at_end(recording: bytes) -> bytes:
     return played(recording)[1]

@@ -18,6 +18,9 @@ fn main() {
     match five_hashes(&sheet) {
         Ok((card, signed)) => {
             println!("{:04X} {}", signed.word, signed.name);
+            if let Some(why) = signed.why() {
+                println!("refused by check {}: {why}", signed.reason);
+            }
             for field in &signed.fields {
                 println!("{:02X} {} {}", field.tag, field.name, hex(&field.value));
             }

@@ -13,7 +13,7 @@ const IMAGE_ROOM: usize = 4096;
 #[repr(C)]
 struct Outcome {
     number: u8,
-    _reason: u8,
+    reason: u8,
     _word: u16, // the response's last two bytes as well
     length: u32,
 }
@@ -57,8 +57,8 @@ pub fn ask(image: &[u8], request: &[u8], draw: &[u8; DRAW]) -> Result<Vec<u8>, u
     Ok(questions)
 }
 
-/// The response and the next image, or the number that says why there was no tap.
-pub fn settle(image: &[u8], request: &[u8], draw: &[u8; DRAW], answers: &[u8]) -> Result<(Vec<u8>, Vec<u8>), u8> {
+/// The response, the check that refused and the next image, or the number that says why there was no tap.
+pub fn settle(image: &[u8], request: &[u8], draw: &[u8; DRAW], answers: &[u8]) -> Result<(Vec<u8>, u8, Vec<u8>), u8> {
     let (mut response, mut next) = (vec![0; ROOM], vec![0; IMAGE_ROOM]);
     // Sound as said above.
     #[rustfmt::skip]
@@ -70,7 +70,7 @@ pub fn settle(image: &[u8], request: &[u8], draw: &[u8; DRAW], answers: &[u8]) -
     };
     response.truncate(settled.written()?);
     next.truncate(image_length());
-    Ok((response, next))
+    Ok((response, settled.reason, next))
 }
 
 /// The fresh card of a sheet, or the number of its first bad line.

@@ -33,9 +33,9 @@ impl<P: Provider> Card<P> {
         let asked = calls::ask(&self.image, request, &draw).map_err(Error::of)?;
         let questions = questions_of(&asked, &self.image[64..72]);
         let answers = self.provider.answer(&questions);
-        let (response, next) = calls::settle(&self.image, request, &draw, &answers).map_err(Error::of)?;
+        let (response, reason, next) = calls::settle(&self.image, request, &draw, &answers).map_err(Error::of)?;
         self.image = next;
-        Ok(Response::new(response, request.get(1).copied().unwrap_or(0)))
+        Ok(Response::new(response, request.get(1).copied().unwrap_or(0), reason))
     }
 }
 

@@ -1,4 +1,4 @@
-//! The paper's names: commands by INS, fields by tag, status words.
+//! The paper's names: commands by INS, fields by tag, status words. And the card's checks in words.
 
 const COMMANDS: [(u8, &str); 12] = [
     (0xF2, "READ_CARD"),
@@ -62,6 +62,22 @@ const WORDS: [(u16, &str); 11] = [
     (0x6E00, "SW_CLA_NOT_SUPPORTED"),
 ];
 
+const REASONS: [(u8, &str); 13] = [
+    (1, "the length of the request, or its Lc"),
+    (2, "the class is not 00"),
+    (3, "no such command"),
+    (4, "P1 or P2 is not 00 (P2 01 or 02: no encrypted session is open)"),
+    (5, "the payload does not end at a field's end"),
+    (6, "PIN1 is absent or is not the card's"),
+    (7, "the CID is absent or is not the card's"),
+    (8, "the card is not activated"),
+    (9, "the card's Status does not allow the command"),
+    (10, "PIN2 or the CVC is absent or is not the card's"),
+    (11, "a field of the command is absent or not as it has to be"),
+    (12, "a condition of the command is not met"),
+    (13, "the issuer did not sign this"),
+];
+
 const SET_PIN: u8 = 0xFA;
 
 fn name<Key: PartialEq + Copy>(table: &[(Key, &'static str)], key: Key) -> &'static str {
@@ -85,4 +101,9 @@ pub fn word(word: u16, ins: u8) -> &'static str {
     } else {
         name(&WORDS, word)
     }
+}
+
+/// What the check of this number refuses, as `the card is not activated` of 8. The card makes its checks in the order of their numbers.
+pub fn reason(reason: u8) -> &'static str {
+    name(&REASONS, reason)
 }

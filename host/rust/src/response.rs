@@ -17,14 +17,16 @@ pub struct Response {
     pub word: u16,
     /// The word's.
     pub name: &'static str,
+    /// The number of the check that refused, 0 where none did. It is in no byte of the response: a real card keeps it to itself.
+    pub reason: u8,
     pub fields: Vec<Field>,
 }
 
 impl Response {
-    pub(crate) fn new(bytes: Vec<u8>, ins: u8) -> Response {
+    pub(crate) fn new(bytes: Vec<u8>, ins: u8, reason: u8) -> Response {
         let (fields, word) = bytes.split_at(bytes.len() - 2);
         let (fields, word) = (fields_of(fields), number(word) as u16);
-        Response { bytes, word, name: names::word(word, ins), fields }
+        Response { bytes, word, name: names::word(word, ins), reason, fields }
     }
 
     pub fn ok(&self) -> bool {
@@ -34,6 +36,11 @@ impl Response {
     /// The card is as it was before.
     pub fn refused(&self) -> bool {
         !self.ok()
+    }
+
+    /// The reason in words; none where it is 0.
+    pub fn why(&self) -> Option<&'static str> {
+        (self.reason != 0).then(|| names::reason(self.reason))
     }
 
     /// The value of the field with this name.

@@ -57,19 +57,21 @@ fn requests_that_are_none_are_refused() {
     let mut card = Card::from_sheet(SHEET, MadeUp::default()).unwrap();
     for wrong in [&[][..], &[0], &[0; 1025], &[0; 100_000]] {
         let response = card.tap(wrong).unwrap();
-        assert_eq!((response.word, response.name, response.fields.len()), (0x6700, "SW_WRONG_LENGTH", 0));
+        assert_eq!((response.word, response.name, response.reason, response.fields.len()), (0x6700, "SW_WRONG_LENGTH", 1, 0));
     }
 }
 
 #[test]
 fn names_where_there_are_none() {
     assert_eq!((names::command(0), names::tag(0), names::word(0x6F00, 0)), ("?", "?", "?"));
+    assert_eq!((names::reason(0), names::reason(14)), ("?", "?"));
     let mut card = Card::from_sheet(SHEET, MadeUp::default()).unwrap();
     let codes = card.codes();
     let same = set_pin(&codes, codes.pin1.as_ref().unwrap(), codes.pin2.as_ref().unwrap());
     assert_eq!(card.tap(&same).unwrap().name, "SW_PINS_NOT_CHANGED");
     let changed = card.tap(&set_pin(&codes, &[1; 32], codes.pin2.as_ref().unwrap())).unwrap();
     assert_eq!((changed.word, changed.name, changed.ok()), (0x9001, "SW_PIN1_CHANGED", true));
+    assert_eq!((changed.reason, changed.why()), (0, None));
 }
 
 /// VERIFY_CARD tells its salt, the start of the draw: another in each tap, and by chance where the provider leaves it to the trait.

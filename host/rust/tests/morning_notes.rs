@@ -58,5 +58,6 @@ fn a_refusal_uses_nothing_up() {
     let wrong = Codes { pin2: Some(vec![0; 32]), ..card.codes() };
     let refused = card.tap(&sign(&wrong, &CHECKS)).unwrap();
     assert!(refused.refused() && refused.name == "SW_INVALID_PARAMS");
+    assert_eq!((refused.reason, refused.why()), (10, Some("PIN2 or the CVC is absent or is not the card's")));
     assert_eq!(card.image(), before);
 }

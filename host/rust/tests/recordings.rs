@@ -1,7 +1,8 @@
 //! Recordings played by the crate: each tap gets the response that was recorded. Those of lessons/, or of the folder that
-//! MERELSTOF_RECORDINGS names.
+//! MERELSTOF_RECORDINGS names. No recording has reasons: there they stand beside it in NAME.reasons, a line for each tap.
 
 use merelstof::{Card, Error, Provider, Question};
+use std::path::Path;
 use std::{env, fs};
 
 const SHEET_LINES: usize = 13;
@@ -31,23 +32,34 @@ fn hex(bytes: &[u8]) -> String {
     bytes.iter().map(|byte| format!("{byte:02X}")).collect()
 }
 
-fn play(recording: &str) -> usize {
+/// How many taps there were, and of how many the reason was compared.
+fn play(path: &Path) -> (usize, usize) {
+    let (recording, reasons) = (fs::read_to_string(path).unwrap(), fs::read_to_string(path.with_extension("reasons")).unwrap_or_default());
     let lines: Vec<&str> = recording.split_inclusive('\n').collect();
+    let mut reasons = reasons.lines();
+    let mut compared = 0;
     let mut card = Card::from_sheet(&lines[..SHEET_LINES].concat(), Recorded::default()).unwrap();
     for line in &lines[SHEET_LINES..] {
         let fields: Vec<&str> = line.trim_end_matches('\n').split('\t').collect();
         card.provider = Recorded { draw: bytes(fields[1]).try_into().unwrap(), answers: bytes(fields[2]) };
         let before = card.image().to_vec();
-        let got = match card.tap(&bytes(fields[0])) {
-            Ok(response) => hex(&response.bytes),
+        let (got, reason) = match card.tap(&bytes(fields[0])) {
+            Ok(response) => {
+                assert_eq!((response.ok(), response.why().is_none()), (response.reason == 0, response.reason == 0), "{line}");
+                (hex(&response.bytes), response.reason)
+            }
             Err(why) => {
                 assert_eq!((why, card.image()), (Error::WrongAnswers, before.as_slice()));
-                "4".to_string()
+                ("4".to_string(), 0)
             }
         };
         assert_eq!(got, fields[3], "{line}");
+        if let Some(expected) = reasons.next() {
+            assert_eq!(reason.to_string(), expected, "{line}");
+            compared += 1;
+        }
     }
-    lines.len() - SHEET_LINES
+    (lines.len() - SHEET_LINES, compared)
 }
 
 #[test]
@@ -55,7 +67,7 @@ fn every_tap_gets_the_response_that_was_recorded() {
     let folder = env::var("MERELSTOF_RECORDINGS").unwrap_or(concat!(env!("CARGO_MANIFEST_DIR"), "/../../lessons").to_string());
     let paths = fs::read_dir(folder).unwrap().map(|entry| entry.unwrap().path());
     let recordings: Vec<_> = paths.filter(|path| path.extension().map_or(false, |end| end == "rec")).collect();
-    let taps: usize = recordings.iter().map(|path| play(&fs::read_to_string(path).unwrap())).sum();
-    println!("{taps} taps of {} recordings", recordings.len());
+    let (taps, compared) = recordings.iter().map(|path| play(path)).fold((0, 0), |sum, one| (sum.0 + one.0, sum.1 + one.1));
+    println!("{taps} taps of {} recordings, {compared} reasons", recordings.len());
     assert!(taps >= 60);
 }
