@@ -90,7 +90,7 @@ old-model m i g n =
 pub old-note : (f : AnyCard) → Demand2 f → (m : State) (i : Call) → protected (m .image) ≡ true → NoteUpTo (noteCounter (m .image)) i → Refused f m i
 old-note = every (λ f. (m : State) (i : Call) → protected (m .image) ≡ true → NoteUpTo (noteCounter (m .image)) i → Refused f m i) old-model
 
--- A NOTE THAT IS RIGHT IN ALL BUT ITS COUNTER, so that the old practice card took it, gets 6985 and no other word
+-- A NOTE THAT IS RIGHT IN ALL BUT ITS COUNTER, so that the old practice card took it, gets 6985 by check 12, and nothing else
 last-fails :
     (rs : List Rule) (g : Verdict) {k : Command} (w : ℕ) → gateOf (rs ++ (rule 12 true w ∷ [])) g ≡ Pass k
     → gateOf (rs ++ (rule 12 false w ∷ [])) g ≡ Stop 12 w
@@ -134,13 +134,12 @@ module _ (c : Card) (q d a : List ℕ) where
 
 pub late-note :
     (f : AnyCard) → Demand2 f → (s : State) (i : Call) → protected (s .image) ≡ true → NoteUpTo (noteCounter (s .image)) i → settleStop s i ≡ 0
-    → {k : Command} → rowsJudge oldRows (decode (s .image)) (i .request) ≡ Pass k → f .taps .settle s i .result .word ≡ swInvalidStatus
+    → {k : Command} → rowsJudge oldRows (decode (s .image)) (i .request) ≡ Pass k → f .taps .settle s i .result ≡ outcome 0 12 swInvalidStatus 2
 unfolding settledOf
 late-note f h s i g n e t =
     let u = late-card (decode (s .image)) (i .request) (i .draw) (i .answers) g (by-ins WriteIssuerData refl (i .request) (n .command)) (n .counter) t in
-    ap (λ y. y .result .word) (h .settles s i ∙ looked s i e)
-    ∙ ap (λ (z : Outcome). z .word)
-    (result-is (saidAt s i) 12 swInvalidStatus (decode (s .image) .face) (cardAt s i) (i .buffers .out) (i .buffers .next) u)
+    ap (λ y. y .result) (h .settles s i ∙ looked s i e)
+    ∙ result-is (saidAt s i) 12 swInvalidStatus (decode (s .image) .face) (cardAt s i) (i .buffers .out) (i .buffers .next) u
 
 -- THE STORED COUNTER of a protected card never falls
 climbs-tap : (c : Card) (q d a : List ℕ) → guarded (c .face) ≡ true → Climbs (c .face) (after c q d a .face)

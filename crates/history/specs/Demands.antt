@@ -65,7 +65,7 @@ isRefusal n w = leb 1 n && (leb n 12 && (eqb w (checkWord n) || (eqb n 4 && eqb 
 abbrev pub settleRefusal : ℕ → ℕ → Bool
 settleRefusal n w = isRefusal n w || (eqb n 13 && eqb w (checkWord 13))
 
--- ask, then: one of checks 1 to 12 with its status word and zero questions, or 9000 for no reason and questions that fit the buffer
+-- ask, then: one of checks 1 to 12 with its status word and zero questions; or reason 0, 9000 and questions that fit the buffer
 pub data Asked (i : Call) (x : Posed) : Type 0 where
   noneAsked : (n w : ℕ) → isRefusal n w ≡ true → x ≡ posed n w [] (i .buffers .page) → Asked i x
   allAsked : (v : List ℕ) → length v ≤ questionsRoom → x ≡ posed 0 swProcessCompleted v (i .buffers .page) → Asked i x

@@ -34,7 +34,7 @@ pub enum Signing {
     Again,
 }
 
-// The checks 1 to 12: the command, or the number of the first that fails and its status word.
+// What the checks say: the command, or the number of the first that fails and its status word.
 pub enum Verdict {
     Pass(Command),
     Stop(u8, u16),
