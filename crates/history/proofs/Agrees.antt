@@ -27,7 +27,7 @@ use Rattle.history.specs.Demands.{settleStop, Agree}
 use Rattle.history.proofs.Choice.{by-cases, clash}
 use Rattle.history.proofs.Taps.{by-checks}
 use Rattle.history.proofs.Cards.{done-is}
-use Rattle.history.proofs.Images.{stop-none, settledAt}
+use Rattle.history.proofs.Images.{settledAt, looked, looked-ask, both-look}
 
 module _ (m : State) (i : Call) (page : List ℕ) where
   abbrev k : Command
@@ -106,7 +106,5 @@ module _ (m : State) (i : Call) (page : List ℕ) where
 pub agree-model :
     (m : State) (i : Call) (page : List ℕ) → questionsRoom ≤ length page → settleStop m i ≡ 0
     → Agree (i .answers) (askedFor m (askCall (i .request) (i .draw) page)) (settled m i)
-unfolding askedFor settled
 agree-model m i page h b =
-    let z = stop-none (isCard (m .image)) (roomy (length (i .buffers .out)) (length (i .buffers .next))) (eqb (length (i .draw)) drawSize) b in
-    rw (z .0, le-leb questionsRoom (length page) h, z .1 .1, z .1 .0) (agree-card m i page)
+    rw (looked m i b, looked-ask m (askCall (i .request) (i .draw) page) (both-look m i page h b)) (agree-card m i page)

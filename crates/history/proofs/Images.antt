@@ -19,10 +19,10 @@ use Rattle.cards.proofs.Round.{decode-encode, shape-decode, is-card-length}
 use Rattle.manual.specs.Words.{questionsRoom, drawSize}
 use Rattle.manual.specs.Row.{asked, eachAsked}
 use Rattle.manual.specs.Settle.{State, holding, Call, sentIn, matched, Said, done, saidTo}
-use Rattle.manual.specs.Settle.{cardAfter, Settled, settled, settledOf, lent, untouched, roomy, askedFor, askedOf}
+use Rattle.manual.specs.Settle.{cardAfter, Settled, settled, settledOf, lent, untouched, outcome, roomy, askCall, Posed, posedBy, askedFor, askedFrom, askedOf}
 use Rattle.story.specs.Sums.{Sheet, History, tap}
 use Rattle.story.specs.Buffers.{questions, response, image}
-use Rattle.history.specs.Demands.{AnyCard, stop, settleStop, Demand2, Event, tapped, tapBy, imageBy, left, played, Fresh, OneMore, Demand3}
+use Rattle.history.specs.Demands.{AnyCard, stop, askStop, settleStop, Demand2, Event, tapped, tapBy, imageBy, left, played, Fresh, OneMore, Demand3}
 use Rattle.history.proofs.Choice.{by-cases, clash}
 use Rattle.history.proofs.Taps.{by-tap}
 use Rattle.history.proofs.Seen.{look, watch, Inv, at-first}
@@ -74,6 +74,9 @@ saidAt m i = saidTo (decode (m .image)) (i .request) (i .draw) (i .answers)
 abbrev pub cardAt : State → Call → Card
 cardAt m i = after (decode (m .image)) (i .request) (i .draw) (i .answers)
 
+abbrev pub askedAt : State → Call → Posed
+askedAt m i = askedFrom (decode (m .image)) (i .request) (i .draw) (i .buffers .page)
+
 abbrev pub settledAt : State → Call → Settled
 settledAt m i = settledOf (decode (m .image)) (i .request) (i .draw) (i .answers) (i .buffers .out) (i .buffers .next)
 
@@ -91,12 +94,39 @@ stops true true false x y e = refl
 stops true false c x y e = refl
 stops false b c x y e = refl
 
+-- what two calls say alike where the card is looked at, they say alike
+pub stages :
+    {A B : Type 0} (P Q : A → B) (u : ℕ → A) → ((n : ℕ) → P (u n) ≡ Q (u n)) → (a b c : Bool) {x y : A} → P x ≡ Q y
+    → P (cond a (cond b (cond c x (u 3)) (u 2)) (u 1)) ≡ Q (cond a (cond b (cond c y (u 3)) (u 2)) (u 1))
+stages P Q u h true true true e = e
+stages P Q u h true true false e = h 3
+stages P Q u h true false c e = h 2
+stages P Q u h false b c e = h 1
+
+by-stop :
+    {A : Type 0} (P : A → Type 0) (a b c : Bool) {x : A} (y : ℕ → A) → ((n : ℕ) → eqb n 0 ≡ false → P (y n))
+    → (a ≡ true → b ≡ true → c ≡ true → P x) → P (cond a (cond b (cond c x (y 3)) (y 2)) (y 1))
+by-stop P a b c y f g =
+    by-cases P a (λ p. by-cases P b (λ q. by-cases P c (λ r. g p q r) (λ _. f 3 refl)) (λ _. f 2 refl)) (λ _. f 1 refl)
+
 -- where none of them applies, the card is looked at
 pub looked : (m : State) (i : Call) → settleStop m i ≡ 0 → settled m i ≡ settledAt m i
 unfolding settled
 looked m i e =
     let z = stop-none (isCard (m .image)) (roomy (length (i .buffers .out)) (length (i .buffers .next))) (eqb (length (i .draw)) drawSize) e in
     rw (z .0, z .1 .0, z .1 .1) refl
+
+pub looked-ask : (m : State) (i : Call) → askStop m i ≡ 0 → askedFor m i ≡ askedAt m i
+unfolding askedFor
+looked-ask m i e =
+    let z = stop-none (isCard (m .image)) (leb questionsRoom (length (i .buffers .page))) (eqb (length (i .draw)) drawSize) e in
+    rw (z .0, z .1 .0, z .1 .1) refl
+
+-- ask looks at it where settle does, if its page has room
+pub both-look : (m : State) (i : Call) (page : List ℕ) → questionsRoom ≤ length page → settleStop m i ≡ 0 → askStop m (askCall (i .request) (i .draw) page) ≡ 0
+both-look m i page l e =
+    let z = stop-none (isCard (m .image)) (roomy (length (i .buffers .out)) (length (i .buffers .next))) (eqb (length (i .draw)) drawSize) e in
+    rw (z .0, le-leb questionsRoom (length page) l, z .1 .1) refl
 
 -- THE CASES OF A CALL: numbers 1 to 3, or the card is looked at
 pub by-call :
@@ -105,13 +135,17 @@ pub by-call :
     → P (settledAt m i))
     → P (settled m i)
 unfolding settled
-by-call P m i f g =
-    by-cases P (isCard (m .image))
-    (λ x.
-    by-cases P (roomy (length (i .buffers .out)) (length (i .buffers .next)))
-    (λ y. by-cases P (eqb (length (i .draw)) drawSize) (λ z. g x y z) (λ _. f 3 refl))
-    (λ _. f 2 refl))
-    (λ _. f 1 refl)
+by-call P m i =
+    by-stop P (isCard (m .image)) (roomy (length (i .buffers .out)) (length (i .buffers .next))) (eqb (length (i .draw)) drawSize)
+    (λ n. untouched n (i .buffers .out) (i .buffers .next))
+
+pub by-ask :
+    (P : Posed → Type 0) (m : State) (i : Call) → ((n : ℕ) → eqb n 0 ≡ false → P (posedBy (outcome n 0 0 0) (i .buffers .page))) → P (askedAt m i)
+    → P (askedFor m i)
+unfolding askedFor
+by-ask P m i f g =
+    by-stop P (isCard (m .image)) (leb questionsRoom (length (i .buffers .page))) (eqb (length (i .draw)) drawSize)
+    (λ n. posedBy (outcome n 0 0 0) (i .buffers .page)) f (λ _ _ _. g)
 
 pub response-is : (m : State) (i : Call) → response (settledAt m i) ≡ saidAt m i .response
 unfolding settledOf
@@ -137,29 +171,15 @@ module _ (m : State) (i : Call) (o : isCard (m .image) ≡ true) where
 -- ask: zero questions where the card has none, whatever is lent
 module _ (m : State) (i : Call) where
   pub asks-none : xs (decode (m .image)) (i .request) (i .draw) ≡ [] → questions (askedFor m i) ≡ []
-  unfolding askedFor askedOf asked eachAsked joined
-  asks-none e =
-      by-cases (λ z. questions z ≡ []) (isCard (m .image))
-      (λ _.
-      by-cases (λ z. questions z ≡ []) (leb questionsRoom (length (i .buffers .page)))
-      (λ _. by-cases (λ z. questions z ≡ []) (eqb (length (i .draw)) drawSize) (λ _. rw e refl) (λ _. refl))
-      (λ _. refl))
-      (λ _. refl)
+  unfolding askedOf asked eachAsked joined
+  asks-none e = by-ask (λ z. questions z ≡ []) m i (λ n k. rw k refl) (rw e refl)
 
   -- in any case the questions, or none
   asks-some : (P : List ℕ → Type 0) → P [] → P (asked (xs (decode (m .image)) (i .request) (i .draw))) → P (questions (askedFor m i))
-  unfolding askedFor askedOf
+  unfolding askedOf
   asks-some P none all =
       let v : List ℕ = asked (xs (decode (m .image)) (i .request) (i .draw)) in
-      by-cases (λ z. P (questions z)) (isCard (m .image))
-      (λ _.
-      by-cases (λ z. P (questions z)) (leb questionsRoom (length (i .buffers .page)))
-      (λ _.
-      by-cases (λ z. P (questions z)) (eqb (length (i .draw)) drawSize)
-      (λ _. subst P (sym (take-at v (drop (length v) (i .buffers .page)) (length v) refl)) all)
-      (λ _. none))
-      (λ _. none))
-      (λ _. none)
+      by-ask (λ z. P (questions z)) m i (λ n k. rw k none) (subst P (sym (take-at v (drop (length v) (i .buffers .page)) (length v) refl)) all)
 
   asks-all :
       isCard (m .image) ≡ true → eqb (length (i .draw)) drawSize ≡ true → questionsRoom ≤ length (i .buffers .page)

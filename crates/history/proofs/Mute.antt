@@ -3,7 +3,7 @@
 use Prim.Native.Nat.{ℕ}
 use mathlib.Core.Path.{_≡_, refl, ap, _∙_}
 use mathlib.Core.List.{List}
-use mathlib.Core.Bool.{Bool, true, false, cond}
+use mathlib.Core.Bool.{Bool, true, false}
 use lib.ListN.{length}
 use lib.Dec.{leb, eqb}
 use Rattle.card.specs.declared.Card.{Card}
@@ -15,16 +15,8 @@ use Rattle.manual.specs.declared.Verdict.the-variants.{Pass, Stop}
 use Rattle.manual.specs.Row.{asked}
 use Rattle.manual.specs.Settle.{State, Call, reasonOf, wordOf, Said, posed, posedBy, outcome, untouched, lent, roomy, askedFor, settled}
 use Rattle.history.specs.Wrong.{honest, hushed, quietly, unreasonedAsk, unreasonedSettle, mute}
+use Rattle.history.proofs.Images.{stages}
 use Rattle.history.proofs.Rejected.{honest-accepted}
-
--- the three stages before a card is looked at have no reason to keep
-stages :
-    {A : Type 0} (h : A → A) (u : ℕ → A) → ((n : ℕ) → u n ≡ h (u n)) → (a b c : Bool) {x y : A} → x ≡ h y
-    → cond a (cond b (cond c x (u 3)) (u 2)) (u 1) ≡ h (cond a (cond b (cond c y (u 3)) (u 2)) (u 1))
-stages h u e true true true p = p
-stages h u e true true false p = e 3
-stages h u e true false c p = e 2
-stages h u e false b c p = e 1
 
 hush-verdict : (z : Verdict) (v page : List ℕ) → posed (reasonOf (hushed z)) (wordOf (hushed z)) v page ≡ unreasonedAsk (posed (reasonOf z) (wordOf z) v page)
 hush-verdict (Pass k) v page = refl
@@ -44,7 +36,7 @@ module _ (s : State) (i : Call) where
 
   pub mute-asks : mute .taps .ask s i ≡ unreasonedAsk (askedFor s i)
   mute-asks =
-      stages unreasonedAsk (λ n. posedBy (outcome n 0 0 0) (i .buffers .page)) (λ n. refl) (isCard (s .image)) (leb questionsRoom (length (i .buffers .page)))
+      stages (λ z. z) unreasonedAsk (λ n. posedBy (outcome n 0 0 0) (i .buffers .page)) (λ n. refl) (isCard (s .image)) (leb questionsRoom (length (i .buffers .page)))
       (eqb (length (i .draw)) drawSize)
       (hush-verdict (honest .verdict c0 (i .request)) (asked (honest .asks c0 (i .request) (i .draw))) (i .buffers .page))
       ∙ ap unreasonedAsk (honest-accepted .asks s i)
@@ -52,7 +44,7 @@ module _ (s : State) (i : Call) where
   pub mute-settles : mute .taps .settle s i ≡ unreasonedSettle (settled s i)
   mute-settles =
       let z : Said = honest .says c0 (i .request) (i .draw) (i .answers) in
-      stages unreasonedSettle (λ n. untouched n (i .buffers .out) (i .buffers .next)) (λ n. refl) (isCard (s .image))
+      stages (λ z. z) unreasonedSettle (λ n. untouched n (i .buffers .out) (i .buffers .next)) (λ n. refl) (isCard (s .image))
       (roomy (length (i .buffers .out)) (length (i .buffers .next))) (eqb (length (i .draw)) drawSize)
       (hush-said z (honest .leaves c0 (i .request) z) (i .buffers .out) (i .buffers .next))
       ∙ ap unreasonedSettle (honest-accepted .settles s i)

@@ -39,7 +39,7 @@ use Rattle.history.proofs.Conduct.{Climbs, same}
 use Rattle.history.proofs.Storage.{above}
 use Rattle.history.proofs.Commands.{conduct}
 use Rattle.history.proofs.Cards.{after, xs}
-use Rattle.history.proofs.Images.{model, stop-none, saidAt, cardAt, looked, by-call, response-is, image-is, asks-none}
+use Rattle.history.proofs.Images.{model, saidAt, cardAt, looked, by-call, response-is, image-is, asks-none}
 use Rattle.history.proofs.Theorems.{every, keeps-where}
 
 -- A NOTE THAT IS TOO OLD, on a card: refused by checks 1 to 12
@@ -78,8 +78,7 @@ old-model m i g n =
           (λ n k. rw k refl)
           (λ _ _ _. ap accepted (response-is m i) ∙ (ap (λ z. accepted (z .response)) (o .said) ∙ (accepts [] (s .word) ∙ o .refusal)));
       word = λ e.
-          let z = stop-none (isCard (m .image)) (roomy (length (i .buffers .out)) (length (i .buffers .next))) (eqb (length (i .draw)) drawSize) e in
-          rw (z .0, z .1 .0, z .1 .1)
+          rw (looked m i e)
           (ap (λ (z : Outcome). isRefusal (z .reason) (z .word))
           (result-is s (s .reason) (s .word) (decode (m .image) .face) (cardAt m i) (i .buffers .out) (i .buffers .next) (o .said))
           ∙ o .word);

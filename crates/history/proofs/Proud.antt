@@ -28,7 +28,7 @@ use Rattle.story.specs.Buffers.{image}
 use Rattle.history.specs.Demands.{imageBy}
 use Rattle.history.specs.Wrong.{judgedBy, asksBy, saysBy, leavesBy, but, withFieldsOut, boasting, proud}
 use Rattle.history.proofs.Taps.{by-checks}
-use Rattle.history.proofs.Images.{model, image-lent}
+use Rattle.history.proofs.Images.{model, stages, image-lent}
 use Rattle.history.proofs.Rejected.{honest-accepted}
 
 -- its rows, and a row without what it tells
@@ -118,15 +118,6 @@ module _ (c : Card) (q d a : List ℕ) where
         (λ n w _ _ _. refl)
         (λ _. ap (λ r. answered r (matched (c .codes) (sentIn q)) (c .face) (sentIn q) d a) same-row)
 
--- numbers 1 to 3 are the same
-stages :
-    {A B : Type 0} (P : A → B) (u : ℕ → A) (a b c : Bool) {x y : A} → P x ≡ P y
-    → P (cond a (cond b (cond c x (u 3)) (u 2)) (u 1)) ≡ P (cond a (cond b (cond c y (u 3)) (u 2)) (u 1))
-stages P u true true true e = e
-stages P u true true false e = refl
-stages P u true false c e = refl
-stages P u false b c e = refl
-
 module _ (s : State) (i : Call) where
   abbrev c0 : Card
   c0 = decode (s .image)
@@ -134,7 +125,7 @@ module _ (s : State) (i : Call) where
   pub proud-asks : proud .taps .ask s i ≡ askedFor s i
   proud-asks =
       let e = same-verdict c0 (i .request) (i .draw) (i .answers) in
-      stages (λ z. z) (λ n. posedBy (outcome n 0 0 0) (i .buffers .page)) (isCard (s .image)) (leb questionsRoom (length (i .buffers .page)))
+      stages (λ z. z) (λ z. z) (λ n. posedBy (outcome n 0 0 0) (i .buffers .page)) (λ n. refl) (isCard (s .image)) (leb questionsRoom (length (i .buffers .page)))
       (eqb (length (i .draw)) drawSize)
       (λ n.
       posed (reasonOf (e n)) (wordOf (e n))
@@ -146,7 +137,7 @@ module _ (s : State) (i : Call) where
   proud-leaves =
       let x = core c0 (i .request) (i .draw) (i .answers) in
       let y = leaves-alike c0 (i .request) (i .draw) (i .answers) in
-      stages (image (s .image)) (λ n. untouched n (i .buffers .out) (i .buffers .next)) (isCard (s .image))
+      stages (image (s .image)) (image (s .image)) (λ n. untouched n (i .buffers .out) (i .buffers .next)) (λ n. refl) (isCard (s .image))
       (roomy (length (i .buffers .out)) (length (i .buffers .next))) (eqb (length (i .draw)) drawSize)
       (image-lent (s .image) _ _ (i .buffers .out) (i .buffers .next)
       ∙ (λ n. cond (eqb (x .number n) 0) (take imageSize (encode (y n) ++ drop imageSize (i .buffers .next))) (s .image))
@@ -157,7 +148,7 @@ module _ (s : State) (i : Call) where
   proud-says e =
       let x = says-alike c0 (i .request) (i .draw) (i .answers) e in
       let y = leaves-alike c0 (i .request) (i .draw) (i .answers) in
-      stages (λ z. z) (λ n. untouched n (i .buffers .out) (i .buffers .next)) (isCard (s .image))
+      stages (λ z. z) (λ z. z) (λ n. untouched n (i .buffers .out) (i .buffers .next)) (λ n. refl) (isCard (s .image))
       (roomy (length (i .buffers .out)) (length (i .buffers .next))) (eqb (length (i .draw)) drawSize)
       (λ n. lent (x n) (y n) (i .buffers .out) (i .buffers .next))
       ∙ honest-accepted .settles s i

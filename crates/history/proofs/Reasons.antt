@@ -19,14 +19,14 @@ use Rattle.manual.specs.Request.{command}
 use Rattle.manual.specs.Row.{Matched, exactly, fitting, shaped, Rule, passed}
 use Rattle.manual.specs.Commands.{row}
 use Rattle.manual.specs.Settle.{State, Call, askCall, sentIn, matched, judgedBy, reasonOf, wordOf, Said, done, answered, said, saidBy, cardAfter, Posed}
-use Rattle.manual.specs.Settle.{settled, settledOf, outcome, lent, askedFor, askedFrom, askedOf, Settled, roomy}
+use Rattle.manual.specs.Settle.{settled, settledOf, outcome, lent, askedFor, askedOf, Settled}
 use Rattle.story.specs.Sums.{isDone}
 use Rattle.history.specs.Demands.{AnyCard, askStop, settleStop, checkWord, isRefusal, Demand2}
 use Rattle.history.specs.Facts.{checksAt, checkHolds, FirstFails, AllHold, Reasoned, SaidNo, Alike, alike, thirteen}
 use Rattle.history.proofs.Choice.{by-cases, both-true, clash}
 use Rattle.history.proofs.Taps.{by-checks, by-word, not-done, all-hold}
 use Rattle.history.proofs.Cards.{done-is}
-use Rattle.history.proofs.Images.{stop-none, settledAt, looked, by-call}
+use Rattle.history.proofs.Images.{askedAt, settledAt, looked, looked-ask, both-look, by-call, by-ask}
 use Rattle.history.proofs.Theorems.{every}
 
 -- THE FIRST CHECK TO FAIL is one
@@ -90,7 +90,7 @@ module _ (s : State) (i : Call) where
   -- THE RESULT of a call whose card is looked at: by the first check to fail, or where all hold
   module _ (P : Outcome → Type 0) (no-way : (n w l : ℕ) → isRefusal n w ≡ true → FirstFails n (checksAt s i) → P (outcome 0 n w l)) where
     asked-by : (AllHold (checksAt s i) → (l : ℕ) → P (outcome 0 0 swProcessCompleted l))
-        → P (askedFrom (decode (s .image)) (i .request) (i .draw) (i .buffers .page) .result)
+        → P (askedAt s i .result)
     unfolding askedOf judgedBy
     asked-by yes-way =
         by-checks (row k) x f (i .request) (λ z. (l : ℕ) → P (outcome 0 (reasonOf z) (wordOf z) l))
@@ -116,15 +116,7 @@ asked-cases :
     (P : Outcome → Type 0) (s : State) (i : Call) → ((n : ℕ) → eqb n 0 ≡ false → P (outcome n 0 0 0))
     → ((n w l : ℕ) → isRefusal n w ≡ true → FirstFails n (checksAt s i) → P (outcome 0 n w l))
     → ((l : ℕ) → P (outcome 0 0 swProcessCompleted l)) → P (askedFor s i .result)
-unfolding askedFor
-asked-cases P s i stopped no-way yes-way =
-    by-cases (λ (z : Posed). P (z .result)) (isCard (s .image))
-    (λ _.
-    by-cases (λ (z : Posed). P (z .result)) (leb questionsRoom (length (i .buffers .page)))
-    (λ _.
-    by-cases (λ (z : Posed). P (z .result)) (eqb (length (i .draw)) drawSize) (λ _. asked-by s i P no-way (λ _. yes-way)) (λ _. stopped 3 refl))
-    (λ _. stopped 2 refl))
-    (λ _. stopped 1 refl)
+asked-cases P s i stopped no-way yes-way = by-ask (λ (z : Posed). P (z .result)) s i stopped (asked-by s i P no-way (λ _. yes-way))
 
 settled-cases :
     (P : Outcome → Type 0) (s : State) (i : Call) → ((n : ℕ) → eqb n 0 ≡ false → P (outcome n 0 0 0))
@@ -190,13 +182,6 @@ settled-first =
     (λ w l _ e. absurd (omega arith)))
 
 -- and the first check to fail is the reason
-looked-ask :
-    (s : State) (i : Call) → askStop s i ≡ 0 → askedFor s i ≡ askedFrom (decode (s .image)) (i .request) (i .draw) (i .buffers .page)
-unfolding askedFor
-looked-ask s i e =
-    let z = stop-none (isCard (s .image)) (leb questionsRoom (length (i .buffers .page))) (eqb (length (i .draw)) drawSize) e in
-    rw (z .0, z .1 .0, z .1 .1) refl
-
 pub first-asked :
     (f : AnyCard) → Demand2 f → (s : State) (i : Call) (n : ℕ) → askStop s i ≡ 0 → FirstFails n (checksAt s i) → f .taps .ask s i .result .reason ≡ n
 first-asked f d s i n e h =
@@ -233,9 +218,7 @@ module _ (f : AnyCard) (d : Demand2 f) (s : State) (i : Call) (page : List ℕ) 
   asking = askCall (i .request) (i .draw) page
 
   looks : askStop s asking ≡ 0
-  looks =
-      let z = stop-none (isCard (s .image)) (roomy (length (i .buffers .out)) (length (i .buffers .next))) (eqb (length (i .draw)) drawSize) e in
-      rw (z .0, le-leb questionsRoom (length page) l, z .1 .1) refl
+  looks = both-look s i page l e
 
   nothing-fails : AllHold (checksAt s i) → f .taps .ask s asking .result .reason ≡ 0
   nothing-fails g =

@@ -33,7 +33,7 @@ use Rattle.history.proofs.Choice.{by-cases, clash}
 use Rattle.history.proofs.Taps.{by-checks, Passed, named, by-outcome, by-tap}
 use Rattle.history.proofs.Commands.{conduct}
 use Rattle.history.proofs.Cards.{done-is, after, stays-tap}
-use Rattle.history.proofs.Images.{model, stop-none, stops, saidAt, cardAt, settledAt}
+use Rattle.history.proofs.Images.{model, stop-none, stops, looked, looked-ask, saidAt, cardAt, settledAt}
 use Rattle.history.proofs.Images.{quiet, by-call, shape-is, image-bytes, image-is, model-demand3, is-model}
 use Rattle.history.proofs.Agrees.{agree-model}
 
@@ -149,15 +149,13 @@ model-demand1 =
       askStops = λ m i e.
           stops (isCard (m .image)) (leb questionsRoom (length (i .buffers .page))) (eqb (length (i .draw)) drawSize) _
           (λ n. posedBy (outcome n 0 0 0) (i .buffers .page)) e;
-      asks = λ m i e.
-          let z = stop-none (isCard (m .image)) (leb questionsRoom (length (i .buffers .page))) (eqb (length (i .draw)) drawSize) e in
-          rw (z .0, z .1 .0, z .1 .1) (ask-ends m i);
+      asks = λ m i e. rw (looked-ask m i e) (ask-ends m i);
       settleStops = λ m i e.
           stops (isCard (m .image)) (roomy (length (i .buffers .out)) (length (i .buffers .next))) (eqb (length (i .draw)) drawSize) _
           (λ n. untouched n (i .buffers .out) (i .buffers .next)) e;
       settles = λ m i b e.
           let z = stop-none (isCard (m .image)) (roomy (length (i .buffers .out)) (length (i .buffers .next))) (eqb (length (i .draw)) drawSize) e in
-          rw (z .0, z .1 .0, z .1 .1) (settle-ends m i (z .0) b);
+          rw (looked m i e) (settle-ends m i (z .0) b);
       agrees = agree-model;
     }
 
