@@ -6,14 +6,11 @@ use mathlib.Core.List.{List, []}
 use mathlib.Core.Bool.{false}
 use lib.ListN.{length, drop}
 use lib.Seq.{take-at}
-use lib.Dec.{eqb}
-use borrow.Author.Tests.{le-leb}
 use Rattle.wire.specs.Wire.{joined}
 use Rattle.fields.specs.Fields.{View}
 use Rattle.card.specs.declared.Face.{Face}
 use Rattle.card.specs.Image.{decode}
-use Rattle.card.specs.Valid.{isCard}
-use Rattle.manual.specs.Words.{swProcessCompleted, swErrorProcessingCommand, questionsRoom, drawSize}
+use Rattle.manual.specs.Words.{swProcessCompleted, swErrorProcessingCommand, questionsRoom}
 use Rattle.manual.specs.declared.Command.{Command}
 use Rattle.manual.specs.declared.Verdict.{Verdict}
 use Rattle.manual.specs.declared.Verdict.the-variants.{Pass, Stop}
@@ -21,7 +18,7 @@ use Rattle.manual.specs.Request.{command}
 use Rattle.manual.specs.Row.{Matched, Question, asked, eachAsked, shaped}
 use Rattle.manual.specs.Commands.{row}
 use Rattle.manual.specs.Settle.{State, Call, askCall, sentIn, matched, judgedBy, wordOf, reasonOf, Said, done, answered, said, saidBy, cardAfter, questionsOf}
-use Rattle.manual.specs.Settle.{settled, settledOf, lent, askedFor, askedOf, posed, roomy}
+use Rattle.manual.specs.Settle.{settled, settledOf, lent, askedFor, askedOf, posed}
 use Rattle.story.specs.Sums.{isDone}
 use Rattle.history.specs.Demands.{settleStop, Agree}
 use Rattle.history.proofs.Choice.{by-cases, clash}

@@ -5,15 +5,13 @@ use native.Mathlib.Omega.{arith}
 use mathlib.Core.Path.{_≡_, refl, sym, ap, _∙_, subst}
 use mathlib.Core.List.{List, [], _∷_, _++_}
 use mathlib.Core.Bool.{Bool, true, false, cond, not, _||_}
-use lib.ListN.{length}
 use lib.Dec.{ltb, eqb}
 use borrow.Author.Tests.{le-ltb}
 use Rattle.fields.specs.Fields.{holds, wellFormed}
 use Rattle.card.specs.declared.Face.{Face}
 use Rattle.card.specs.declared.Card.{Card}
 use Rattle.card.specs.Image.{decode}
-use Rattle.card.specs.Valid.{isCard}
-use Rattle.manual.specs.Words.{drawSize, swInvalidParams, swInvalidStatus}
+use Rattle.manual.specs.Words.{swInvalidParams, swInvalidStatus}
 use Rattle.manual.specs.Tags.{CVC}
 use Rattle.manual.specs.declared.Command.{Command}
 use Rattle.manual.specs.declared.Command.the-variants.{WriteIssuerData}
@@ -26,7 +24,7 @@ use Rattle.manual.specs.Commands.{row}
 use Rattle.manual.specs.Row.{Matched}
 use Rattle.manual.specs.Settle.{State, holding, Call, sentIn, matched, Said, refused, done, judgedBy, said, saidBy, saidTo}
 use Rattle.manual.specs.declared.Outcome.{Outcome}
-use Rattle.manual.specs.Settle.{cardAfter, settled, settledOf, outcome, lent, roomy}
+use Rattle.manual.specs.Settle.{cardAfter, settled, settledOf, outcome, lent}
 use Rattle.story.specs.Sums.{tap, isDone, accepted, did}
 use Rattle.story.specs.Buffers.{response, image}
 use Rattle.history.specs.Demands.{AnyCard, isRefusal, settleStop, Demand2, Event, tapped, tapBy, imageBy, left}

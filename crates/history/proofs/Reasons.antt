@@ -6,25 +6,24 @@ use mathlib.Core.List.{List, [], _∷_}
 use mathlib.Core.Bool.{Bool, true, false, _&&_, _||_}
 use lib.ListN.{length, getD}
 use lib.Dec.{leb, eqb}
-use borrow.Author.Tests.{eq-eqb, ne-eqb, le-leb, leb-true, leb-false}
+use borrow.Author.Tests.{eq-eqb, ne-eqb, leb-true, leb-false}
 use Rattle.card.specs.declared.Face.{Face}
 use Rattle.card.specs.Image.{decode}
-use Rattle.card.specs.Valid.{isCard}
-use Rattle.manual.specs.Words.{swProcessCompleted, swErrorProcessingCommand, swNeedEncryption, swInvalidParams, questionsRoom, drawSize}
+use Rattle.manual.specs.Words.{swProcessCompleted, swErrorProcessingCommand, swNeedEncryption, swInvalidParams, questionsRoom}
 use Rattle.manual.specs.declared.Command.{Command}
 use Rattle.manual.specs.declared.Command.the-variants.{ReadCard, CreateWallet, CheckWallet, SetPin, Sign, VerifyCard, ValidateCard, PurgeWallet}
 use Rattle.manual.specs.declared.Command.the-variants.{ReadUserData, WriteUserData, WriteIssuerData, ReadIssuerData}
 use Rattle.manual.specs.declared.Outcome.{Outcome}
 use Rattle.manual.specs.Request.{command}
-use Rattle.manual.specs.Row.{Matched, exactly, fitting, shaped, Rule, passed}
+use Rattle.manual.specs.Row.{Matched, exactly, fitting, shaped, Rule}
 use Rattle.manual.specs.Commands.{row}
 use Rattle.manual.specs.Settle.{State, Call, askCall, sentIn, matched, judgedBy, reasonOf, wordOf, Said, done, answered, said, saidBy, cardAfter, Posed}
 use Rattle.manual.specs.Settle.{settled, settledOf, outcome, lent, askedFor, askedOf, Settled}
 use Rattle.story.specs.Sums.{isDone}
 use Rattle.history.specs.Demands.{AnyCard, askStop, settleStop, checkWord, isRefusal, Demand2}
-use Rattle.history.specs.Facts.{checksAt, checkHolds, FirstFails, AllHold, Reasoned, SaidNo, Alike, alike, thirteen}
+use Rattle.history.specs.Facts.{checksAt, FirstFails, AllHold, Reasoned, SaidNo, Alike, alike, thirteen}
 use Rattle.history.proofs.Choice.{by-cases, both-true, clash}
-use Rattle.history.proofs.Taps.{by-checks, by-word, not-done, all-hold}
+use Rattle.history.proofs.Taps.{by-checks, in-range, by-word, not-done, all-hold}
 use Rattle.history.proofs.Cards.{done-is}
 use Rattle.history.proofs.Images.{askedAt, settledAt, looked, looked-ask, both-look, by-call, by-ask}
 use Rattle.history.proofs.Theorems.{every}
@@ -127,11 +126,6 @@ settled-cases P s i stopped no-way thirteenth yes-way =
     by-call (λ (z : Settled). P (z .result)) s i stopped (λ _ _ _. settled-by s i P no-way (λ _ _. stopped 4 refl) thirteenth (λ _ _. yes-way))
 
 -- WHAT A REASON TELLS of the result
-in-range : (n w : ℕ) → isRefusal n w ≡ true → (1 ≤ n) × (n ≤ 12)
-in-range n w e =
-    let y = both-true (leb 1 n) (leb n 12 && (eqb w (checkWord n) || (eqb n 4 && eqb w swNeedEncryption))) e in
-    (leb-true 1 n (y .0), leb-true n 12 (both-true (leb n 12) (eqb w (checkWord n) || (eqb n 4 && eqb w swNeedEncryption)) (y .1) .0))
-
 numbered : (n : ℕ) → eqb n 0 ≡ false → Reasoned (outcome n 0 0 0)
 numbered n e = record { none = rw e refl; word = λ z _. clash refl z; four = λ z. absurd (omega arith) }
 

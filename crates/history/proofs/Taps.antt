@@ -9,20 +9,20 @@ use lib.Seq.{take-at, getD-append-add, getD-append-seam}
 use lib.Dec.{leb, eqb}
 use borrow.Author.Tests.{le-leb, leb-true, eq-eqb, ne-eqb, eqb-true}
 use Rattle.wire.specs.Wire.{be2}
-use Rattle.fields.specs.Fields.{View, has, holds, val, wellFormed, written, Tagged, Writable, among, firstOf}
+use Rattle.fields.specs.Fields.{View, has, holds, val, written, Tagged, Writable, among, firstOf}
 use Rattle.fields.proofs.Trip.{has-written, val-written}
 use Rattle.card.specs.declared.Face.{Face}
 use Rattle.manual.specs.Words.{swErrorProcessingCommand, swNeedEncryption}
 use Rattle.manual.specs.Tags.{CVC}
 use Rattle.manual.specs.declared.Verdict.{Verdict}
 use Rattle.manual.specs.declared.Verdict.the-variants.{Stop}
-use Rattle.manual.specs.Request.{command, payload, listed, insOf}
+use Rattle.manual.specs.Request.{command, listed, insOf}
 use Rattle.manual.specs.Row.{Matched, Question, shaped, Row, Rule, gateOf, allowed, asksCvc, rules, passed}
 use Rattle.manual.specs.Commands.{row}
 use Rattle.manual.specs.Settle.{sentIn, judgedBy, judged, Said, silent, refused, done, answered, saidBy, said, questionsOf}
 use Rattle.story.specs.Sums.{bodyOf, lastWord, toldIn, isDone, accepted}
 use Rattle.history.specs.Demands.{checkWord, isRefusal}
-use Rattle.history.specs.Facts.{checkHolds, FirstFails, AllHold}
+use Rattle.history.specs.Facts.{checksOf, checkHolds, FirstFails, AllHold}
 use Rattle.history.proofs.Choice.{by-cases, both-true, clash}
 
 -- RESPONSES
@@ -96,12 +96,15 @@ check-not-done n =
     by-cases P (eqb n 8 || (eqb n 9 || eqb n 12)) (λ _. refl)
     (λ _. by-cases P (eqb n 13) (λ _. refl) (λ _. refl)))))
 
--- a refusal's word is its check's, or in check 4 another
+-- a refusal is of a check of 1 to 12, with its word, or in check 4 with another
+pub in-range : (n w : ℕ) → isRefusal n w ≡ true → (1 ≤ n) × (n ≤ 12) × ((eqb w (checkWord n) || (eqb n 4 && eqb w swNeedEncryption)) ≡ true)
+in-range n w e =
+    let y = both-true (leb 1 n) (leb n 12 && (eqb w (checkWord n) || (eqb n 4 && eqb w swNeedEncryption))) e in
+    let z = both-true (leb n 12) (eqb w (checkWord n) || (eqb n 4 && eqb w swNeedEncryption)) (y .1) in
+    (leb-true 1 n (y .0), leb-true n 12 (z .0), z .1)
+
 pub by-word : (P : ℕ → Type 0) (n w : ℕ) → isRefusal n w ≡ true → P (checkWord n) → (n ≡ 4 → P swNeedEncryption) → P w
-by-word P n w e own other =
-    let z = both-true (leb n 12) (eqb w (checkWord n) || (eqb n 4 && eqb w swNeedEncryption))
-    (both-true (leb 1 n) (leb n 12 && (eqb w (checkWord n) || (eqb n 4 && eqb w swNeedEncryption))) e .1) .1 in
-    go (eqb w (checkWord n)) refl z
+by-word P n w e own other = go (eqb w (checkWord n)) refl (in-range n w e .2)
   where
     go : (b : Bool) → eqb w (checkWord n) ≡ b → (b || (eqb n 4 && eqb w swNeedEncryption)) ≡ true → P w
     go true h _ = subst P (sym (eqb-true w (checkWord n) h)) own
@@ -143,15 +146,12 @@ pub record Passed (r : Row) (m : Matched) (f : Face) (v : View) : Type 0 where
   pub conditions : r .conditions m f v ≡ true
 
 module _ (r : Row) (m : Matched) (f : Face) (q : List ℕ) where
-  abbrev pub all : List Rule
-  all = rules r m f (wellFormed (payload q)) (sentIn q) q
-
   pub by-checks :
-      (P : Verdict → Type 0) → ((n w : ℕ) → isRefusal n w ≡ true → isDone w ≡ false → FirstFails n all → P (Stop n w)) → (Every all → P (passed q))
-      → P (gateOf all (passed q))
-  by-checks P = by-rules P 0 all (passed q) refl
+      (P : Verdict → Type 0) → ((n w : ℕ) → isRefusal n w ≡ true → isDone w ≡ false → FirstFails n (checksOf r m f q) → P (Stop n w))
+      → (Every (checksOf r m f q) → P (passed q)) → P (gateOf (checksOf r m f q) (passed q))
+  by-checks P = by-rules P 0 (checksOf r m f q) (passed q) refl
 
-  pub named : Every all → Passed r m f (sentIn q)
+  pub named : Every (checksOf r m f q) → Passed r m f (sentIn q)
   named h =
       let g = h .1 .1 .1 .1 .1 .1 in
       let o = g .1 .1 .1 .1 in

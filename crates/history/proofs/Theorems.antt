@@ -1,9 +1,8 @@
 -- THE THEOREMS of any card that meets demand 2: demands 1 and 3, and that demand 2 leaves nothing open. Assumes nothing.
 use Prim.Native.Nat.{ℕ, _+_}
-use native.Mathlib.Omega.{arith}
 use mathlib.Core.Path.{_≡_, refl, sym, ap, _∙_, subst}
 use mathlib.Core.List.{List, _++_}
-use mathlib.Core.Bool.{Bool, true, false, cond}
+use mathlib.Core.Bool.{Bool, true, false}
 use lib.ListN.{length, drop, length-append}
 use lib.Dec.{leb, eqb}
 use Rattle.wire.specs.Wire.{be2, joined, Bytes}
@@ -26,7 +25,7 @@ use Rattle.manual.specs.Settle.{Settled, settled, settledOf, settledBy, lent, u
 use Rattle.facts.proofs.Facts.{small-decode, small-shape, facts, asks, tells}
 use Rattle.story.specs.Sums.{isDone}
 use Rattle.story.specs.Buffers.{image}
-use Rattle.history.specs.Demands.{AnyCard, stop, settleRefusal, Asked, noneAsked, allAsked, Ended, shapeless, refusal, carriedOut}
+use Rattle.history.specs.Demands.{AnyCard, settleRefusal, Asked, noneAsked, allAsked, Ended, shapeless, refusal, carriedOut}
 use Rattle.history.specs.Demands.{Demand1, Demand2, imageBy, Demand3}
 use Rattle.history.specs.Facts.{Unchanged}
 use Rattle.history.proofs.Choice.{by-cases, clash}

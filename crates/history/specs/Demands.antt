@@ -15,7 +15,6 @@ use Rattle.card.specs.Valid.{isCard}
 use Rattle.manual.specs.Words.{swProcessCompleted, swErrorProcessingCommand, questionsRoom, responseRoom, drawSize}
 use Rattle.manual.specs.Words.{swWrongLength, swNeedEncryption, swInvalidStatus, swInvalidParams, swInsNotSupported, swClaNotSupported}
 use Rattle.manual.specs.Tags.{CID, PIN1, PIN2, CVC, Status, Challenge, TransactionHash, Signature, Remaining, SignedHashes}
-use Rattle.manual.specs.declared.Command.{Command}
 use Rattle.manual.specs.declared.Command.the-variants.{CreateWallet, CheckWallet, Sign}
 use Rattle.manual.specs.Request.{code, listed, insOf}
 use Rattle.manual.specs.Row.{Question, question, asked, shaped}

@@ -7,6 +7,7 @@ use mathlib.Core.Bool.{Bool, true, false, cond, not, _&&_, _||_}
 use lib.Dec.{leb, eqb}
 use Rattle.wire.specs.Wire.{Bytes}
 use Rattle.fields.specs.Fields.{wellFormed}
+use Rattle.card.specs.declared.Face.{Face}
 use Rattle.card.specs.declared.Card.{Card}
 use Rattle.card.specs.Layout.{mostHashes}
 use Rattle.card.specs.Image.{decode}
@@ -15,7 +16,7 @@ use Rattle.manual.specs.Words.{swNeedEncryption, swInvalidParams}
 use Rattle.manual.specs.declared.Command.the-variants.{WriteIssuerData}
 use Rattle.manual.specs.declared.Outcome.{Outcome}
 use Rattle.manual.specs.Request.{code, command, payload}
-use Rattle.manual.specs.Row.{Question, shaped, Rule, rules}
+use Rattle.manual.specs.Row.{Matched, Question, shaped, Row, Rule, rules}
 use Rattle.manual.specs.Commands.{row}
 use Rattle.manual.specs.Storage.{guarded, sentCounter}
 use Rattle.manual.specs.Settle.{State, Call, sentIn, matched}
@@ -36,12 +37,14 @@ pub record Refused (f : AnyCard) (s : State) (i : Call) : Type 0 where
   pub word : settleStop s i ≡ 0 → isRefusal (f .taps .settle s i .result .reason) (f .taps .settle s i .result .word) ≡ true
   pub stays : Unchanged (s .image) (imageBy f s i)
 
--- CHECKS 1 to 12 that a call is held to, on the card that the image spells
+-- CHECKS 1 to 12 that a request is held to; those of a call, on the card that the image spells
+abbrev pub checksOf : Row → Matched → Face → List ℕ → List Rule
+checksOf r m f q = rules r m f (wellFormed (payload q)) (sentIn q) q
+
 abbrev pub checksAt : State → Call → List Rule
 checksAt s i =
     let c : Card = decode (s .image) in
-    let q : List ℕ = i .request in
-    rules (row (command q)) (matched (c .codes) (sentIn q)) (c .face) (wellFormed (payload q)) (sentIn q) q
+    checksOf (row (command (i .request))) (matched (c .codes) (sentIn (i .request))) (c .face) (i .request)
 
 -- check n holds: each of its parts does
 abbrev pub checkHolds : ℕ → List Rule → Bool
