@@ -66,7 +66,7 @@ module _ (c : Card) (q d a : List ℕ) where
   unfolding done
   shape-after s =
       by-tap (λ z _. Shape (cardAfter z (c .codes) q)) m f q d a
-      (λ n w x z. s)
+      (λ n w z. s)
       (λ _ z y. rw (y .face, y .codes) s)
       (λ y g. record { codes = facts k .codes v (c .codes) (s .codes); face = facts k .shape f v a (s .face) })
 
@@ -75,7 +75,7 @@ module _ (c : Card) (q d a : List ℕ) where
   unfolding done
   stays-tap o =
       by-tap (λ z _. okFace (z .face) ≡ true) m f q d a
-      (λ n w x z. o)
+      (λ n w z. o)
       (λ _ s z. rw (z .face) o)
       (λ y s. conduct k m f q d a y .stays o s)
 
@@ -98,7 +98,7 @@ module _ (c : Card) (q d a : List ℕ) where
         conduct k m f q d a y .keeps sh (c .codes) h r (i .inv) (did-by q r e) (sym (val-told Signature w fs (writes (facts k) g v d a s)))
 
     inv-tap : Inv sh (watch (after c q d a .face)) (after c q d a .codes) (look sh (tap q (saidTo c q d a .response) ∷ h))
-    inv-tap = by-tap Goal m f q d a (λ n w x z. stays _ z) (λ _ s z. stays s z) (λ y g. keeps-done y)
+    inv-tap = by-tap Goal m f q d a (λ n w z. stays _ z) (λ _ s z. stays s z) (λ y g. keeps-done y)
 
     pub fits-tap : Fits sh (after c q d a) (tap q (saidTo c q d a .response) ∷ h)
     fits-tap = record { inv = inv-tap; shape = shape-after (i .shape) }

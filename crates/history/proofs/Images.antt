@@ -38,7 +38,7 @@ pub quiet : (c : Card) (q d a : List ℕ) → eqb (saidTo c q d a .number) 0 ≡
 unfolding done
 quiet c q d a =
     by-tap (λ z _. eqb (z .number) 0 ≡ false → (z .response ≡ []) × (cardAfter z (c .codes) q ≡ c)) (matched (c .codes) (sentIn q)) (c .face) q d a
-    (λ _ w x z n. clash refl n)
+    (λ _ w z n. clash refl n)
     (λ _ s z n. (z .silence n, rw (z .face, z .codes) refl))
     (λ y g n. clash refl n)
 

@@ -172,7 +172,7 @@ module _ (sh : Sheet) (c : Card) (h : History) (i : Fits sh c h) (t : Call) wher
   asks-by j Due these e may =
       let by : Passed (row k) m f v → Asks Due these (asked (row k .questions f v d)) =
       subst (λ l. Passed (row l) m f v → Asks Due these (asked (row l .questions f v d))) (sym e) may in
-      by-tap (λ _ y. Asks Due these (asked y)) m f q d a (λ n w y z. nothing refl) (λ p s z. by p) (λ p g. by p)
+      by-tap (λ _ y. Asks Due these (asked y)) m f q d a (λ n w z. nothing refl) (λ p s z. by p) (λ p g. by p)
 
   sign-due : (b : Bool) → isNew v ≡ b → Passed sign m f v → Asks (NewSign sh h v) (signQuestions sh h v) (asked (sign .questions f v d))
   unfolding asked eachAsked joined
@@ -209,7 +209,7 @@ module _ (sh : Sheet) (c : Card) (h : History) (i : Fits sh c h) (t : Call) wher
       (λ n. allKinds (λ j. may-ask q (status sh h) j n) (row k .questions f v d))
       ∙ (λ n. allKinds (mayAsk (code k) (sym (i .inv .status) n)) (row k .questions f v d))
       ∙ conduct k m f q d a p .asks in
-      by-tap (λ _ y. allKinds (mayAsk (ins q) (status sh h)) y ≡ true) m f q d a (λ n w y z. refl) (λ p s z. may p) (λ p g. may p)
+      by-tap (λ _ y. allKinds (mayAsk (ins q) (status sh h)) y ≡ true) m f q d a (λ n w z. refl) (λ p s z. may p) (λ p g. may p)
 
   -- SIGN, new or again
   sign-bytes : did Sign (tap q r) ≡ true → r ≡ signResponse sh (tap q r ∷ h) (lastOf (g .last))
@@ -258,7 +258,7 @@ module _ (sh : Sheet) (c : Card) (h : History) (i : Fits sh c h) (t : Call) wher
   ended-by n e u =
       let no-way : Passed (row k) m f v → ⊥ = λ p. conduct k m f q d a p .alive (uses-by q u) (i .inv .status ∙ i .inv .purged n e) in
       by-tap (λ z y. (accepted (z .response) ≡ false) × (y ≡ [])) m f q d a
-      (λ n w y z. (z .answer, refl))
+      (λ n w z. (z .answer, refl))
       (λ p z k. absurd (no-way p))
       (λ p k. absurd (no-way p))
 

@@ -143,7 +143,7 @@ climbs-tap : (c : Card) (q d a : List ℕ) → guarded (c .face) ≡ true → Cl
 unfolding done
 climbs-tap c q d a g =
     by-tap (λ z _. Climbs (c .face) (z .face)) (matched (c .codes) (sentIn q)) (c .face) q d a
-    (λ n w x z. same refl refl)
+    (λ n w z. same refl refl)
     (λ _ s z. rw (z .face) (same refl refl))
     (λ y _. conduct (command q) (matched (c .codes) (sentIn q)) (c .face) q d a y .climbs g)
 

@@ -204,13 +204,13 @@ module _ (P : Said → List Question → Type 0) (m : Matched) (f : Face) (q d a
 
   -- the same, where number 4 and check 13 need not be told apart
   pub by-tap :
-      ((n w : ℕ) → isRefusal n w ≡ true → Same f (refused n w f) → P (refused n w f) [])
+      ((n w : ℕ) → Same f (refused n w f) → P (refused n w f) [])
       → (Passed r m f v → (s : Said) → Same f s → P s (r .questions f v d))
       → (Passed r m f v → shaped (r .questions f v d) a ≡ true → P (done r m f v d a) (r .questions f v d))
       → P (said m f q d a) (questionsOf (judged m f q) f q d)
   by-tap no-way stuck yes-way =
       by-outcome
-      (λ n w x e. no-way n w x (refused-same f n w e))
+      (λ n w _ e. no-way n w (refused-same f n w e))
       (λ h _. stuck h (silent 4 f) (silent-same f))
       (λ h. stuck h (refused 13 swErrorProcessingCommand f) (refused-same f 13 swErrorProcessingCommand refl))
       yes-way
@@ -227,7 +227,7 @@ pub carried :
     → Carried (row (command q)) m f (sentIn q) d a (said m f q d a) (questionsOf (judged m f q) f q d)
 carried m f q d a =
     by-tap (λ s x. accepted (s .response) ≡ true → Carried (row (command q)) m f (sentIn q) d a s x) m f q d a
-    (λ n w x k e. clash e (k .answer))
+    (λ n w k e. clash e (k .answer))
     (λ h s k e. clash e (k .answer))
     (λ h g e. record { passed = h; shape = g; isDone = refl; isAsked = refl })
 

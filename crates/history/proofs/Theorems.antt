@@ -166,7 +166,7 @@ refused-card : (c : Card) (q d a : List ℕ) → isDone (saidTo c q d a .word) �
 unfolding done
 refused-card c q d a =
     by-tap (λ z _. isDone (z .word) ≡ false → cardAfter z (c .codes) q ≡ c) (matched (c .codes) (sentIn q)) (c .face) q d a
-    (λ n w x z e. refl)
+    (λ n w z e. refl)
     (λ _ s z e. rw (z .face, z .codes) refl)
     (λ y g e. clash (done-is (command q) (matched (c .codes) (sentIn q))) e)
 
