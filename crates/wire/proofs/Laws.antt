@@ -9,7 +9,7 @@ use mathlib.Core.List.{List, [], _∷_, _++_, append-assoc, append-nil}
 use mathlib.Core.Bool.{Bool, true, false, cond, _&&_, _||_}
 use lib.ListN.{length, take, drop, getD, replicate, length-append, length-take, length-drop, length-replicate, take-append-drop, drop-of-length-le}
 use lib.Seq.{take-at, drop-append-add, drop-drop, drop-cons, drop-nil, paste, take-length, take-suc, getD-drop}
-use lib.Bits.{bitOr, bitXor, or-add-and, and-le-l, and-le-r, or-zero-l, xor-add-and, xor-self}
+use lib.Bits.{bitOr, or-add-and, and-le-l, and-le-r, or-zero-l}
 use lib.Dec.{leb, eqb}
 use borrow.Author.Tests.{le-leb, lt-leb, leb-true, leb-false, eq-eqb, ne-eqb, eqb-true}
 use Rattle.wire.specs.declared.Check.{Check}
@@ -265,7 +265,7 @@ alike-same (x ∷ a) (y ∷ b) e = let p = both-true (eqb x y) (alike a b) e in 
 or-none : (d z : ℕ) → bitOr d z ≡ 0 → d ≡ 0
 or-none d z e = omega (arith, or-add-and d z, and-le-l d z, and-le-r d z)
 
-or-zero : (d x : ℕ) → eqb (bitOr d x) 0 ≡ eqb d 0 && eqb x 0
+pub or-zero : (d x : ℕ) → eqb (bitOr d x) 0 ≡ eqb d 0 && eqb x 0
 or-zero d x = go (ℕ-discrete d 0) (ℕ-discrete x 0)
   where
     go : Dec (d ≡ 0) → Dec (x ≡ 0) → eqb (bitOr d x) 0 ≡ eqb d 0 && eqb x 0
@@ -273,11 +273,11 @@ or-zero d x = go (ℕ-discrete d 0) (ℕ-discrete x 0)
     go (yes p) (no q) = rw (p, or-zero-l x, ne-eqb x 0 q)
     go (no p) _ = rw (ne-eqb (bitOr d x) 0 (λ e. p (or-none d x e)), ne-eqb d 0 p)
 
-and-assoc : (a b c : Bool) → (a && b && c) ≡ (a && (b && c))
+pub and-assoc : (a b c : Bool) → (a && b && c) ≡ (a && (b && c))
 and-assoc true b c = refl
 and-assoc false b c = refl
 
-and-one : (a : Bool) → (a && true) ≡ a
+pub and-one : (a : Bool) → (a && true) ≡ a
 and-one true = refl
 and-one false = refl
 
@@ -357,25 +357,6 @@ module _ (s : List ℕ) (at n : ℕ) where
       gone true false c d r = refl
       gone true true false d r = refl
       gone true true true d r = refl
-
--- COMPARISON: what differences gathered by `or` tell
-xor-zero : (x y : ℕ) → eqb (bitXor x y) 0 ≡ eqb x y
-xor-zero x y = go (ℕ-discrete x y)
-  where
-    go : Dec (x ≡ y) → eqb (bitXor x y) 0 ≡ eqb x y
-    go (yes p) = rw (p, xor-self y, eq-eqb y y refl)
-    go (no p) = rw (ne-eqb x y p, ne-eqb (bitXor x y) 0 (λ e. p (omega (arith, xor-add-and x y, and-le-l x y, and-le-r x y))))
-
-module _ (a b : List ℕ) (d i : ℕ) where
-  pub differ : i < length a → i < length b
-      → (eqb d 0 && alike (drop i a) (drop i b)) ≡ (eqb (bitOr d (bitXor (getD a i 0) (getD b i 0))) 0 && alike (drop (i + 1) a) (drop (i + 1) b))
-  differ h k =
-      let x = bitXor (getD a i 0) (getD b i 0) in
-      rw (alike-step a b i h k, or-zero d x, xor-zero (getD a i 0) (getD b i 0))
-      (sym (and-assoc (eqb d 0) (eqb (getD a i 0) (getD b i 0)) (alike (drop (i + 1) a) (drop (i + 1) b))))
-
-  pub differed : length a ≤ i → length b ≤ i → (eqb d 0 && alike (drop i a) (drop i b)) ≡ eqb d 0
-  differed h k = rw (alike-end a b i h k) (and-one (eqb d 0))
 
 -- a run that fills all of d
 pub filled : {d v d′ : List ℕ} {r : ℕ} → Runs d 0 v d′ r → length v ≡ length d → d′ ≡ v
