@@ -5,7 +5,8 @@
  *   bench NAME N     calls that N times, for a counter that only sees whole runs: two runs give the cost of one call
  *
  * Two cards are tapped, both Loaded. One holds no data and no signatures, the other as much as a card can hold. They are made through
- * the library's own calls, with answers of no meaning: what a signature is does not matter here. */
+ * the library's own calls, with answers of no meaning: what a signature is does not matter here. Wrong codes are sent to the first, and
+ * to one like it that asks for the CVC. */
 #include <stdio.h>
 #include <stdlib.h>
 #include <string.h>
@@ -26,7 +27,8 @@
 #define SIGNATURE 64
 #define MOST_HASHES 10
 
-enum { PIN1 = 0x10, CID = 0x01, PIN2 = 0x11, DATA_OPEN = 0x2A, DATA_PROTECTED = 0x2B, ISSUER_DATA = 0x32 };
+enum { PIN1 = 0x10, CID = 0x01, PIN2 = 0x11, NEW_PIN1 = 0x12, NEW_PIN2 = 0x13, CVC = 0x19 };
+enum { DATA_OPEN = 0x2A, DATA_PROTECTED = 0x2B, ISSUER_DATA = 0x32 };
 enum { ISSUER_SIGNATURE = 0x33, ISSUER_COUNTER = 0x35, HASHES = 0x50, HASH_SIZE = 0x51 };
 
 typedef struct {
@@ -41,12 +43,14 @@ typedef struct {
     uint8_t answers[MOST_HASHES * SIGNATURE];
     size_t answers_len;
     unsigned word; /* that settle gives */
+    int calls_alone; /* ask and settle are counted, and nothing beside them */
 } tap_case;
 
-static uint8_t empty[PRACTICE_IMAGE_ROOM], signed_once[PRACTICE_IMAGE_ROOM], full[PRACTICE_IMAGE_ROOM];
+static uint8_t empty[PRACTICE_IMAGE_ROOM], signed_once[PRACTICE_IMAGE_ROOM], full[PRACTICE_IMAGE_ROOM], guarded[PRACTICE_IMAGE_ROOM];
 static uint8_t draw[PRACTICE_DRAW], code[CODE], data[DATA], cid[8] = {0xAA, 0, 0, 0, 0, 1, 0x66, 0x75};
+static const uint8_t cvc[3] = {'1', '2', '3'};
 static uint8_t questions[PRACTICE_ROOM], response[PRACTICE_ROOM], next[PRACTICE_IMAGE_ROOM];
-static tap_case cases[32];
+static tap_case cases[64];
 static size_t case_count;
 
 static void stop(const char *why)
@@ -104,13 +108,39 @@ static void make_plain(request *r, uint8_t ins, int pin2)
     finish(r);
 }
 
-static void make_sign(request *r, size_t hashes)
+static void hash_fields(request *r, size_t hashes)
 {
     const uint8_t size = HASH;
-    begin(r, 0xFB);
-    access_fields(r, 1);
     field(r, HASHES, data, hashes * HASH);
     field(r, HASH_SIZE, &size, 1);
+}
+
+static void make_sign(request *r, size_t hashes)
+{
+    begin(r, 0xFB);
+    access_fields(r, 1);
+    hash_fields(r, hashes);
+    finish(r);
+}
+
+/* With the CVC: a SIGN of one hash, or a command without fields of its own. */
+static void make_guarded(request *r, uint8_t ins)
+{
+    begin(r, ins);
+    access_fields(r, 1);
+    field(r, CVC, cvc, sizeof cvc);
+    if (ins == 0xFB)
+        hash_fields(r, 1);
+    finish(r);
+}
+
+/* The codes that the card has are the new ones. */
+static void make_set_pin(request *r)
+{
+    begin(r, 0xFA);
+    access_fields(r, 1);
+    field(r, NEW_PIN1, code, sizeof code);
+    field(r, NEW_PIN2, code, sizeof code);
     finish(r);
 }
 
@@ -135,11 +165,18 @@ static void make_issuer_write(request *r, uint8_t counter)
 
 /* ---- cards ---- */
 
-static const char sheet[] =
-    "cid\tAA00000000016675\n"
-    "pin1\t1111111111111111111111111111111111111111111111111111111111111111\n"
-    "pin2\t1111111111111111111111111111111111111111111111111111111111111111\n"
-    "cvc\t123\ncurve\tsecp256k1\nmax\t1000000\nreusable\t1\nusecvc\t0\nsetpin1\t1\nsetpin2\t1\nnopurge\t1\nreplay\t1\nactive\t1\n";
+static void personalise(uint8_t image[PRACTICE_IMAGE_ROOM], int usecvc)
+{
+    char sheet[512];
+    snprintf(sheet, sizeof sheet,
+             "cid\tAA00000000016675\n"
+             "pin1\t1111111111111111111111111111111111111111111111111111111111111111\n"
+             "pin2\t1111111111111111111111111111111111111111111111111111111111111111\n"
+             "cvc\t123\ncurve\tsecp256k1\nmax\t1000000\nreusable\t1\nusecvc\t%d\nsetpin1\t1\nsetpin2\t1\nnopurge\t1\nreplay\t1\nactive\t1\n",
+             usecvc);
+    if (practice_personalise((const uint8_t *)sheet, strlen(sheet), image, PRACTICE_IMAGE_ROOM) != 0)
+        stop("the sheet is bad");
+}
 
 static void tap(uint8_t image[PRACTICE_IMAGE_ROOM], const request *r, const uint8_t *answers, size_t answers_len)
 {
@@ -154,10 +191,12 @@ static void make_cards(void)
 {
     const uint8_t key[65] = {4}, yes = 1;
     request r;
-    if (practice_personalise((const uint8_t *)sheet, sizeof sheet - 1, empty, sizeof empty) != 0)
-        stop("the sheet is bad");
+    personalise(empty, 0);
     make_plain(&r, 0xF8, 1);
     tap(empty, &r, key, sizeof key);
+    personalise(guarded, 1);
+    make_guarded(&r, 0xF8);
+    tap(guarded, &r, key, sizeof key);
     memcpy(signed_once, empty, sizeof empty);
     make_sign(&r, 1);
     tap(signed_once, &r, data, SIGNATURE);
@@ -202,6 +241,105 @@ static void make_cases(const char *card, const uint8_t *image, const uint8_t *wi
     make_plain(refused, 0xF2, 0);
     refused->bytes[7 + CODE - 1] ^= 1;
     make_plain(&new_case(card, image, "refused by check 12", 0, 0x6985)->sent, 0xFC, 1);
+}
+
+/* ---- wrong codes: ask and settle alone ---- */
+
+#define EVERY_BYTE ((size_t)-1)
+
+static void read_card(request *r)
+{
+    make_plain(r, 0xF2, 0);
+}
+
+static void sign_one(request *r)
+{
+    make_sign(r, 1);
+}
+
+static void sign_guarded(request *r)
+{
+    make_guarded(r, 0xFB);
+}
+
+/* Each request with a code of which one byte is another than the card's, or every one. A name is the request, the code and how it is
+ * sent, parted by a colon and a blank. */
+static const struct {
+    const char *name;
+    const uint8_t *image;
+    void (*make)(request *);
+    uint8_t tag;
+    size_t place;
+    unsigned word;
+} spoilt[] = {
+    {"READ_CARD: PIN1: wrong in byte 0", empty, read_card, PIN1, 0, 0x6A86},
+    {"READ_CARD: PIN1: wrong in byte 15", empty, read_card, PIN1, 15, 0x6A86},
+    {"READ_CARD: PIN1: wrong in byte 31", empty, read_card, PIN1, 31, 0x6A86},
+    {"READ_CARD: PIN1: wrong in every byte", empty, read_card, PIN1, EVERY_BYTE, 0x6A86},
+    {"SIGN, 1 hash: PIN2: wrong in byte 0", empty, sign_one, PIN2, 0, 0x6A86},
+    {"SIGN, 1 hash: PIN2: wrong in byte 15", empty, sign_one, PIN2, 15, 0x6A86},
+    {"SIGN, 1 hash: PIN2: wrong in byte 31", empty, sign_one, PIN2, 31, 0x6A86},
+    {"SIGN, 1 hash: PIN2: wrong in every byte", empty, sign_one, PIN2, EVERY_BYTE, 0x6A86},
+    {"SIGN, 1 hash, CVC used: CVC: wrong in its first character", guarded, sign_guarded, CVC, 0, 0x6A86},
+    {"SIGN, 1 hash, CVC used: CVC: wrong in its second character", guarded, sign_guarded, CVC, 1, 0x6A86},
+    {"SIGN, 1 hash, CVC used: CVC: wrong in its third character", guarded, sign_guarded, CVC, 2, 0x6A86},
+    {"SIGN, 1 hash, CVC used: CVC: wrong in all", guarded, sign_guarded, CVC, EVERY_BYTE, 0x6A86},
+    {"SET_PIN: New_PIN1: another in byte 0", empty, make_set_pin, NEW_PIN1, 0, 0x9001},
+    {"SET_PIN: New_PIN1: another in byte 31", empty, make_set_pin, NEW_PIN1, 31, 0x9001},
+    {"SET_PIN: New_PIN1: another in every byte", empty, make_set_pin, NEW_PIN1, EVERY_BYTE, 0x9001},
+    {"SET_PIN: New_PIN2: another in byte 0", empty, make_set_pin, NEW_PIN2, 0, 0x9002},
+    {"SET_PIN: New_PIN2: another in byte 31", empty, make_set_pin, NEW_PIN2, 31, 0x9002},
+    {"SET_PIN: New_PIN2: another in every byte", empty, make_set_pin, NEW_PIN2, EVERY_BYTE, 0x9002},
+};
+
+/* PIN1 of other lengths, which begins with the card's. */
+static const struct {
+    const char *name;
+    size_t length;
+} resized[] = {
+    {"READ_CARD: PIN1: of 0 bytes", 0},
+    {"READ_CARD: PIN1: of 31 bytes", CODE - 1},
+    {"READ_CARD: PIN1: of 33 bytes", CODE + 1},
+    {"READ_CARD: PIN1: of 64 bytes", 2 * CODE},
+};
+
+static request *code_case(const uint8_t *image, const char *name, unsigned word)
+{
+    tap_case *c = new_case("codes", image, name, 0, word);
+    c->calls_alone = 1;
+    return &c->sent;
+}
+
+static void spoil(request *r, uint8_t tag, size_t place)
+{
+    size_t at = 5;
+    while (r->bytes[at] != tag)
+        at += 2 + r->bytes[at + 1];
+    for (size_t i = 0; i < r->bytes[at + 1]; i++)
+        if (place == EVERY_BYTE || place == i)
+            r->bytes[at + 2 + i] ^= 1;
+}
+
+static void make_code_cases(void)
+{
+    for (size_t one = 0; one < sizeof spoilt / sizeof *spoilt; one++) {
+        request *r = code_case(spoilt[one].image, spoilt[one].name, spoilt[one].word);
+        spoilt[one].make(r);
+        spoil(r, spoilt[one].tag, spoilt[one].place);
+    }
+    uint8_t begins[2 * CODE] = {0};
+    memcpy(begins, code, CODE);
+    for (size_t one = 0; one < sizeof resized / sizeof *resized; one++) {
+        request *r = code_case(empty, resized[one].name, 0x6A86);
+        begin(r, 0xF2);
+        field(r, PIN1, begins, resized[one].length);
+        field(r, CID, cid, sizeof cid);
+        finish(r);
+    }
+    request *r = code_case(empty, "READ_CARD: PIN1: absent", 0x6A86);
+    begin(r, 0xF2);
+    field(r, CID, cid, sizeof cid);
+    finish(r);
 }
 
 static void check_cases(void)
@@ -326,7 +464,12 @@ static const struct {
 #endif
 };
 
-#define COUNTS (sizeof counts / sizeof *counts)
+#define CALLS 2 /* the first of them: ask and settle */
+
+static size_t counted(const tap_case *c)
+{
+    return c->calls_alone ? CALLS : sizeof counts / sizeof *counts;
+}
 
 static const char *full_name(size_t one, const tap_case *c)
 {
@@ -339,7 +482,7 @@ static const char *full_name(size_t one, const tap_case *c)
 static void count_all(void)
 {
     for (size_t at = 0; at < case_count; at++)
-        for (size_t one = 0; one < COUNTS; one++) {
+        for (size_t one = 0; one < counted(&cases[at]); one++) {
             counts[one].call(&cases[at]);
             CALLGRIND_DUMP_STATS_AT("first call");
             counts[one].call(&cases[at]);
@@ -350,14 +493,14 @@ static void count_all(void)
 static void list(void)
 {
     for (size_t at = 0; at < case_count; at++)
-        for (size_t one = 0; one < COUNTS; one++)
+        for (size_t one = 0; one < counted(&cases[at]); one++)
             printf("%s\t%zu\n", full_name(one, &cases[at]), cases[at].sent.length);
 }
 
 static void call_times(const char *name, unsigned long times)
 {
     for (size_t at = 0; at < case_count; at++)
-        for (size_t one = 0; one < COUNTS; one++)
+        for (size_t one = 0; one < counted(&cases[at]); one++)
             if (strcmp(name, full_name(one, &cases[at])) == 0) {
                 while (times-- > 0)
                     counts[one].call(&cases[at]);
@@ -373,6 +516,7 @@ int main(int count, char **arguments)
     make_cards();
     make_cases("empty", empty, signed_once);
     make_cases("full", full, full);
+    make_code_cases();
     check_cases();
     if (count == 1)
         count_all();
