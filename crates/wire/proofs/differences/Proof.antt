@@ -1,10 +1,9 @@
 use mathlib.Core.Path.{_≡_, refl, sym, ap, _∙_}
 use mathlib.Core.Bool.{_&&_}
-use mathlib.Core.List.{_++_}
 use Prim.Native.Nat.{ℕ, _+_, _-_}
 use native.Mathlib.Omega.{arith}
 use denote.Ref.{now}
-use lib.ListN.{length, getD, take, drop, replicate}
+use lib.ListN.{length, getD, drop}
 use lib.Bits.{bitOr, bitXor}
 use lib.Dec.{eqb}
 use Rattle.wire.specs.Wire.{alike}
