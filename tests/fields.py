@@ -37,9 +37,16 @@ def fields_of(payload):
     return found
 
 
-def first(payload, tag):
-    """The value of the first field with the tag, or None."""
-    return next((payload[b : b + n] for t, b, n in fields_of(payload) if t == tag), None)
+def values(payload, tag):
+    """The values of the fields with the tag, in their order."""
+    return [payload[b : b + n] for t, b, n in fields_of(payload) if t == tag]
+
+
+def lookup(found):
+    """Absent, once or twice, which is twice or more; and the first value."""
+    if not found:
+        return ";10 absent"
+    return (";10 twice=" if len(found) > 1 else ";10=") + found[0].hex().upper()
 
 
 def report(payload):
@@ -47,9 +54,7 @@ def report(payload):
         found = fields_of(payload)
     except Malformed:
         return "malformed"
-    value = first(payload, TAG)
-    look = ";10 absent" if value is None else ";10=" + value.hex().upper()
-    return "".join("%02X@%d+%d " % f for f in found) + look
+    return "".join("%02X@%d+%d " % f for f in found) + lookup(values(payload, TAG))
 
 
 def short(tag, value):
@@ -72,8 +77,8 @@ def report_write(length, size):
     if length <= 65535 and 1 + len(field(TAG, value)) <= size:
         next = 1 + len(field(TAG, value))
         out[1:next] = field(TAG, value)
-    back = first(bytes(out[1:next]), TAG)
-    read = "absent" if back is None else "same" if back == value else "other"
+    back = values(bytes(out[1:next]), TAG)
+    read = "absent" if not back else "same" if back == [value] else "other"
     return "%d %s %s %s" % (next, bytes(out[:6]).hex().upper(), read, "clean" if not any(out[next:]) else "beyond")
 
 
@@ -91,6 +96,14 @@ def whole_payloads():
     yield from (unknown, unknown + a, unknown + b + a, within, within + b, short(0xFF, a) + a, long(0xFF, b"\xff\xff") + b)
     yield from (long(0x2A, pattern(512)) + a, short(0x2B, pattern(254)) + b, long(0x2B, pattern(255)) + b + a)
     yield from (a + b"\x10", a + b"\x10\x01", b"\x10\xff\xff\xff" + pattern(600), b"\x11\xff\x00", unknown + b"\x10\xff\x00\x02\x01")
+
+
+def doubled_payloads():
+    """The tag, or another one, more than once: equal, empty, in both forms, apart, more often than a byte counts, with a malformed end."""
+    a, empty, other = short(TAG, b"\xaa"), short(TAG, b""), short(0x11, b"\x10\x01\xaa")
+    yield from (a + a, a + empty, a + a + empty, empty + empty, long(TAG, b"") + empty, long(TAG, b"\xaa") + a, a + other + a)
+    yield from (empty * 256, a + empty * 256, a + other + other, other + other, a + bytes((0x11, 0)) * 257)
+    yield from (a + a + b"\x10", a + a + b"\x10\x02\x01", a + a + b"\x11\xff", a + empty + empty + b"\x10\xff\x00\x01")
 
 
 def cut_payloads():
@@ -112,7 +125,7 @@ def writes():
 
 def cases():
     """Lines of standard input, each with the lines that it must print."""
-    for p in whole_payloads():
+    for p in (*whole_payloads(), *doubled_payloads()):
         yield p.hex().upper(), [report(p)]
     for p in cut_payloads():
         yield "*" + p.hex().upper(), [report(p[:n]) for n in range(len(p) + 1)]

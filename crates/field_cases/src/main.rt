@@ -3,6 +3,7 @@
 // size, four bytes each, for the writer. Each function here is proved safe and ending; the promises are those of `fields` and
 // `sent`.
 use fields::Step;
+use fields::Times;
 use libc::STDIN_FILENO;
 use libc::STDOUT_FILENO;
 use sent::Places;
@@ -71,13 +72,24 @@ fn say_fields(p: &[u8]) {
     }
 }
 
+fn say_value(p: &[u8], at: &Places) {
+    say_hex(sent::value(p, at, TAG));
+    say(b"\n");
+}
+
 fn say_lookup(p: &[u8], at: &Places) {
-    if sent::has(p, at, TAG) {
-        say(b";10=");
-        say_hex(sent::value(p, at, TAG));
-        say(b"\n");
-    } else {
-        say(b";10 absent\n");
+    match sent::stands(p, at, TAG) {
+        Times::Absent => {
+            say(b";10 absent\n");
+        }
+        Times::Once => {
+            say(b";10=");
+            say_value(p, at);
+        }
+        Times::Twice => {
+            say(b";10 twice=");
+            say_value(p, at);
+        }
     }
 }
 

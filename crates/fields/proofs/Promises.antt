@@ -7,6 +7,7 @@ use Rattle.fields.proofs.put_short as put-short
 use Rattle.fields.proofs.put_number as put-number
 use Rattle.fields.proofs.step_at as step-at
 use Rattle.fields.proofs.find as find
+use Rattle.fields.proofs.stands as stands
 
 pub put-field-one : OneOutcome put-field.ended (λ M. put-field.clauses {M = M})
 put-field-one M 𝓤 H A m r κs a g z z′ ws ws′ = plain 𝓤 (λ p q. let e = one-write p q in (e .1, λ i. (e .0 i, (tt, (tt, (tt, tt))))))
@@ -25,3 +26,6 @@ step-at-one M 𝓤 H A m r κs a g z z′ ws ws′ = plain 𝓤 (λ p q. one-equ
 
 pub find-one : OneOutcome find.ended (λ M. find.clauses {M = M})
 find-one M 𝓤 H A m r κs a g z z′ ws ws′ = plain 𝓤 (λ p q. one-equal p q)
+
+pub stands-one : OneOutcome stands.ended (λ M. stands.clauses {M = M})
+stands-one M 𝓤 H A m r κs a g z z′ ws ws′ = plain 𝓤 (λ p q. one-equal p q)

@@ -15,8 +15,8 @@ use Rattle.wire.proofs.Laws.{part-plain}
 use Rattle.fields.specs.declared.Step.the-variants.{Field}
 use Rattle.fields.specs.declared.Found.{Found}
 use Rattle.fields.specs.declared.Found.the-variants.{At, Absent}
-use Rattle.fields.specs.Fields.{stepAt, fieldAt, headOf, tlv, Tagged, each, written, among, firstOf, Writable, ended, goOn, restFrom, whole, firstIn}
-use Rattle.fields.specs.Fields.{found, valueOf, holdsAt, viewOf, has, val, holds, wellFormed}
+use Rattle.fields.specs.Fields.{stepAt, fieldAt, headOf, tlv, Tagged, each, written, among, copiesOf, firstOf, Writable, ended, goOn, restFrom, whole, firstIn}
+use Rattle.fields.specs.Fields.{found, valueOf, holdsAt, copies, timesOf, isTwice, viewOf, has, val, holds, twice, wellFormed}
 use Rattle.fields.proofs.Laws.{head-short, head-long, tlv-plain, past, after}
 
 -- the short form
@@ -154,13 +154,18 @@ found-run t [] x h = ap (λ r. found (firstIn t r)) (no-run x)
 found-run t (f ∷ fs) x h =
     ap (λ r. found (firstIn t r)) (first-run x (h .0)) ∙ found-cond (eqb (f .tag) t) _ _ _ ∙ ap (λ b. eqb (f .tag) t || b) (found-run t fs (others x) (h .1))
 
+copies-run : (t : ℕ) {s : List ℕ} {at : ℕ} (fs : List Tagged) → Stand s at fs → Writable fs → copies t (restFrom s at) ≡ copiesOf t fs
+copies-run t [] x h = ap (copies t) (no-run x)
+copies-run t (f ∷ fs) x h = ap (copies t) (first-run x (h .0)) ∙ ap (λ n. cond (eqb (f .tag) t) 1 0 + n) (copies-run t fs (others x) (h .1))
+
 value-run : (t : ℕ) {s : List ℕ} {at : ℕ} (fs : List Tagged) → Stand s at fs → Writable fs → valueOf s (firstIn t (restFrom s at)) ≡ firstOf t fs
 value-run t {s} [] x h = ap (λ r. valueOf s (firstIn t r)) (no-run x)
 value-run t {s} (f ∷ fs) x h =
     ap (λ r. valueOf s (firstIn t r)) (first-run x (h .0)) ∙ value-cond s (eqb (f .tag) t) _ _ _
     ∙ ap₂ (cond (eqb (f .tag) t)) (first-value x (h .0)) (value-run t fs (others x) (h .1))
 
--- THE LAWS of written fields, over any list of them and any tag: they are a payload, and looking a tag up finds the first field with it, and that field's value
+-- THE LAWS of written fields, over any list of them and any tag: they are a payload, and looking a tag up finds the first field with it, that field's value,
+-- and how many there are
 stands : (fs : List Tagged) → Stand (written fs) 0 fs
 stands fs = record { before = []; bytes = refl; place = refl }
 
@@ -172,6 +177,10 @@ module _ (t : ℕ) (fs : List Tagged) (h : Writable fs) where
   pub has-written : has t (viewOf (written fs)) ≡ among t fs
   unfolding has viewOf
   has-written = found-run t fs (stands fs) h
+
+  pub twice-written : twice t (viewOf (written fs)) ≡ isTwice (timesOf (copiesOf t fs))
+  unfolding twice viewOf
+  twice-written = ap (λ n. isTwice (timesOf n)) (copies-run t fs (stands fs) h)
 
   pub val-written : val t (viewOf (written fs)) ≡ firstOf t fs
   unfolding val viewOf

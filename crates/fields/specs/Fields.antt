@@ -1,4 +1,5 @@
--- Fields, 01 "Requests and fields": what stands at a position, the run of fields from a position on, and a view of a payload, by the first field with each tag.
+-- Fields, 01 "Requests and fields": what stands at a position, the run of fields from a position on, and a view of a payload: the first field with each
+-- tag, and how often the tag stands.
 use Prim.Native.Nat.{ℕ, zero, suc, _+_, _-_, _*_, _≤_}
 use mathlib.Core.List.{List, [], _∷_, _++_}
 use Rattle.wire.specs.Wire.{part, be2, alike, joined}
@@ -9,6 +10,8 @@ use Rattle.fields.specs.declared.Step.{Step}
 use Rattle.fields.specs.declared.Step.the-variants.{Field, Bad, End}
 use Rattle.fields.specs.declared.Found.{Found}
 use Rattle.fields.specs.declared.Found.the-variants.{At, Absent}
+use Rattle.fields.specs.declared.Times.{Times}
+use Rattle.fields.specs.declared.Times.the-variants.{Absent as Nowhere, Once, Twice}
 
 -- tag at `at`, value of n bytes from b: the field, or Bad where the value runs past the end
 unfoldable pub fieldAt : List ℕ → ℕ → ℕ → ℕ → Step
@@ -61,14 +64,28 @@ firstIn t ended = Absent
 firstIn t broken = Absent
 firstIn t (one f r) = cond (eqb (f .tag) t) (At (f .start) (f .len)) (firstIn t r)
 
--- A VIEW of a payload: its bytes, and where the first value with each tag stands in them. It is all that a command reads
+-- HOW OFTEN a tag stands: the number of fields with it, and what is told of that number
+abbrev pub copies : ℕ → Run → ℕ
+copies t ended = 0
+copies t broken = 0
+copies t (one f r) = cond (eqb (f .tag) t) 1 0 + copies t r
+
+abbrev pub timesOf : ℕ → Times
+timesOf n = cond (eqb n 0) Nowhere (cond (eqb n 1) Once Twice)
+
+-- counted so far as it is told
+abbrev pub met : ℕ → ℕ → ℕ → ℕ
+met n u t = cond (eqb u t) (cond (ltb n 2) (n + 1) n) n
+
+-- A VIEW of a payload: its bytes, where the first value with each tag stands in them, and how often the tag does. It is all that a command reads
 pub record View : Type 0 where
   pub bytes : List ℕ
   pub at : ℕ → Found
+  pub times : ℕ → Times
 
 -- the payload's own
 unfoldable pub viewOf : List ℕ → View
-viewOf p = record { bytes = p; at = λ t. firstIn t (restFrom p 0) }
+viewOf p = record { bytes = p; at = λ t. firstIn t (restFrom p 0); times = λ t. timesOf (copies t (restFrom p 0)) }
 
 abbrev pub found : Found → Bool
 found Absent = false
@@ -91,6 +108,15 @@ val t v = valueOf (v .bytes) (v .at t)
 
 unfoldable pub holds : ℕ → View → List ℕ → Bool
 holds t v code = holdsAt (v .bytes) (v .at t) code
+
+-- whether the tag stands twice, or more often
+abbrev pub isTwice : Times → Bool
+isTwice Nowhere = false
+isTwice Once = false
+isTwice Twice = true
+
+unfoldable pub twice : ℕ → View → Bool
+twice t v = isTwice (v .times t)
 
 unfoldable pub wellFormed : List ℕ → Bool
 wellFormed p = whole (restFrom p 0)
@@ -118,11 +144,15 @@ each (f ∷ fs) = tlv (f .tag) (f .value) ∷ each fs
 unfoldable pub written : List Tagged → List ℕ
 written fs = joined (each fs)
 
--- READING a list of fields without its bytes: whether a tag is there, the first value with it (nothing where it is absent), and that each
--- value has a length that can be written
+-- READING a list of fields without its bytes: whether a tag is there, how many fields have it, the first value with it (nothing where it is
+-- absent), and that each value has a length that can be written
 abbrev pub among : ℕ → List Tagged → Bool
 among t [] = false
 among t (f ∷ fs) = eqb (f .tag) t || among t fs
+
+abbrev pub copiesOf : ℕ → List Tagged → ℕ
+copiesOf t [] = 0
+copiesOf t (f ∷ fs) = cond (eqb (f .tag) t) 1 0 + copiesOf t fs
 
 abbrev pub firstOf : ℕ → List Tagged → List ℕ
 firstOf t [] = []

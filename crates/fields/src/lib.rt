@@ -1,10 +1,10 @@
-// Fields, 01 "Requests and fields": tag, length, value. What stands at a place of a payload, the first field with a tag,
-// the writer; all total.
+// Fields, 01 "Requests and fields": tag, length, value. What stands at a place of a payload, the first field with a tag and
+// how often the tag stands, the writer; all total.
 ghost use mathlib.Core.Path.{_≡_};
 ghost use Prim.Native.Nat.{_≤_, _<_};
 ghost use lib.ListN.{length};
 ghost use Rattle.wire.specs.Wire.{Wrote, be1, be2, be4};
-ghost use Rattle.fields.specs.Fields.{stepAt, fieldAt, restFrom, firstIn, headOf, tlv};
+ghost use Rattle.fields.specs.Fields.{stepAt, fieldAt, restFrom, firstIn, copies, timesOf, met, headOf, tlv};
 
 // What stands at a position of a payload.
 pub enum Step {
@@ -22,6 +22,13 @@ pub enum Step {
 pub enum Found {
     At(usize, usize),
     Absent,
+}
+
+// How often a tag stands in a payload; Twice is two times or more.
+pub enum Times {
+    Absent,
+    Once,
+    Twice,
 }
 
 // The field whose tag stands at `at` and whose value starts at b and has n bytes.
@@ -88,6 +95,57 @@ pub fn find(s: &[u8], tag: u8) -> Found
             }
             Step::End => {
                 return Found::Absent;
+            }
+        }
+    }
+}
+
+// One field more is met: of two and more nothing else is told.
+fn meet(n: usize, t: u8, tag: u8) -> usize
+    ensures { λ r. ⌜ r ≡ met n t tag ⌝ }
+{
+    if t == tag {
+        if n < 2 {
+            return n + 1;
+        }
+    }
+    n
+}
+
+fn told(n: usize) -> Times
+    ensures { λ r. ⌜ r ≡ timesOf n ⌝ }
+{
+    if n == 0 {
+        return Times::Absent;
+    }
+    if n == 1 {
+        return Times::Once;
+    }
+    Times::Twice
+}
+
+// How often the tag stands, by a walk of its own.
+pub fn stands(s: &[u8], tag: u8) -> Times
+    ensures { λ r. ⌜ r ≡ timesOf (copies tag (restFrom (now (s .entry)) 0)) ⌝ }
+{
+    let mut at = 0;
+    let mut n = 0;
+    loop {
+        match step_at(s, at) {
+            Step::Field {
+                tag: t,
+                start: _,
+                len: _,
+                next,
+            } => {
+                n = meet(n, t, tag);
+                at = next;
+            }
+            Step::Bad => {
+                return told(n);
+            }
+            Step::End => {
+                return told(n);
             }
         }
     }

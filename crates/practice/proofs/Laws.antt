@@ -13,7 +13,7 @@ use Rattle.wire.proofs.Laws.{runs, all-run, then, front, both-true, part-plain}
 use Rattle.wire.specs.declared.Check.{Check}
 use Rattle.wire.specs.declared.Check.the-variants.{Fine, Failed}
 use Rattle.fields.specs.Fields.{View, viewOf, each, written, wellFormed}
-use Rattle.sent.specs.Sent.{places, viewBy, Filled}
+use Rattle.sent.specs.Sent.{words, viewBy, Filled}
 use Rattle.sent.proofs.Laws.{same-view, fill-form}
 use Rattle.card.specs.declared.Card.{Card}
 use Rattle.card.specs.Layout.{imageSize, imageRoom}
@@ -122,7 +122,7 @@ pub stopped : (c : Card) (q : List ℕ) {h : Verdict} {n a : ℕ} → h ≡ head
 stopped c q eh d = at-head (wellFormed (payload q)) c (sentIn q) q eh d
 
 module _ {p l : List ℕ} {w : Bool} {h : Verdict} {k : Command} (q : List ℕ) (eh : h ≡ headOf q) (dh : h ≡ Pass k) (ep : p ≡ bodyIn q)
-    (f : Filled p (replicate places 0) w l) where
+    (f : Filled p (replicate words 0) w l) where
   has-payload : p ≡ payload q
   has-payload = ep ∙ body-is q (heads q eh dh)
 

@@ -216,7 +216,7 @@ fn settle_card(
         return refuse(img, h, response, next);
     };
     let p = request::body(request);
-    let mut places = [0u32; sent::PLACES];
+    let mut places = [0u32; sent::WORDS];
     let whole = sent::fill(p, &mut places);
     let v = judge(cmd, img, request, p, whole, &places);
     let Verdict::Pass(_) = v else {
@@ -270,7 +270,7 @@ fn ask_card(img: &[u8], request: &[u8], draw: &[u8], questions: &mut [u8]) -> Ou
         return says(h, 0);
     };
     let p = request::body(request);
-    let mut places = [0u32; sent::PLACES];
+    let mut places = [0u32; sent::WORDS];
     let whole = sent::fill(p, &mut places);
     let v = judge(cmd, img, request, p, whole, &places);
     let Verdict::Pass(_) = v else {

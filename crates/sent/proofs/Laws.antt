@@ -1,10 +1,10 @@
--- Laws of the places that one walk notes: of a payload whose places fit 16 bits they give the view that the payload gives. Assumes nothing.
+-- Laws of the places and marks that one walk leaves: of a payload whose places fit 16 bits they give the view that the payload gives. Assumes nothing.
 use Prim.Native.Nat.{ℕ, _+_, _-_, _*_, _/_, _%_, _≤_, _<_}
 use native.Mathlib.Omega.{arith}
 use mathlib.Core.Path.{_≡_, refl, sym, ap, _∙_}
 use mathlib.Core.List.{List, []}
 use mathlib.Core.Bool.{Bool, true, false, cond}
-use lib.ListN.{length, take, drop, getD, set, replicate, length-set, length-replicate, getD-replicate}
+use lib.ListN.{length, take, drop, getD, set, replicate, length-replicate, getD-replicate}
 use lib.Seq.{getD-set-same, getD-set-other}
 use lib.Dec.{ltb, leb, eqb}
 use borrow.Author.Tests.{ltb-true, leb-true, eqb-true, eqb-false, lt-ltb, ne-eqb}
@@ -12,10 +12,14 @@ use Rattle.wire.specs.Wire.{part, alike}
 use Rattle.wire.proofs.Laws.{by-cases, part-plain}
 use Rattle.fields.specs.declared.Found.{Found}
 use Rattle.fields.specs.declared.Found.the-variants.{At, Absent}
+use Rattle.fields.specs.declared.Times.the-variants.{Absent as Nowhere, Once}
 use Rattle.fields.specs.declared.Step.the-variants.{Field}
-use Rattle.fields.specs.Fields.{Run, ended, broken, one, stepAt, restFrom, whole, firstIn, View, viewOf, found, valueOf, holdsAt, has, val, holds, wellFormed}
+use Rattle.fields.specs.Fields.{Run, ended, broken, one, stepAt, restFrom, whole, firstIn, View, viewOf, wellFormed}
+use Rattle.fields.specs.Fields.{found, valueOf, holdsAt, has, val, holds, isTwice, twice}
 use Rattle.fields.proofs.Laws.{Within, within, after}
-use Rattle.sent.specs.Sent.{places, packed, spot, noted, notes, walked, placesOf, Filled, lookup, viewBy}
+use Rattle.sent.specs.Sent.{places, words, packed, spot, withMark, unmarked, noted, notes, walked, placesOf, Filled, lookup, often, viewBy}
+use Rattle.sent.proofs.Marks.{place-stays, none-marked, noted-length}
+use Rattle.sent.proofs.Often.{often-tag}
 
 -- THE LOOP: what is left of the walk gives the rest of both
 pub record Midway (p l₀ l : List ℕ) (here : ℕ) : Type 0 where
@@ -52,13 +56,6 @@ spot-packed b n h k =
     let f : (b * 65536 + n) % 65536 ≡ n = omega arith in
     rw (m, o, z, e, f)
 
-noted-length : (l : List ℕ) (u b n : ℕ) → length (noted l u b n) ≡ length l
-unfolding noted
-noted-length l u b n =
-    by-cases (λ (m : List ℕ). length m ≡ length l) (ltb u places) {x = cond (eqb (getD l u 0) 0) (set l u (packed b n)) l} {y = l}
-    (λ e. by-cases (λ (m : List ℕ). length m ≡ length l) (eqb (getD l u 0) 0) {x = set l u (packed b n)} {y = l} (λ e. simp length-set) (λ e. refl))
-    (λ e. refl)
-
 -- what was noted stays, else the first field that is left
 abbrev orElse : Found → Found → Found
 orElse (At b n) y = At b n
@@ -76,23 +73,23 @@ module _ (t : ℕ) (small : t < places) where
   other : (l : List ℕ) (u b n : ℕ) → (u ≡ t → ⊥) → seen (noted l u b n) ≡ seen l
   unfolding noted
   other l u b n h =
-      by-cases (λ (m : List ℕ). seen m ≡ seen l) (ltb u places) {x = cond (eqb (getD l u 0) 0) (set l u (packed b n)) l} {y = l}
-      (λ _. by-cases (λ (m : List ℕ). seen m ≡ seen l) (eqb (getD l u 0) 0) {x = set l u (packed b n)} {y = l}
-      (λ _. ap spot (getD-set-other l u t (packed b n) 0 (λ q. h (sym q)))) (λ _. refl))
+      by-cases (λ (m : List ℕ). seen m ≡ seen l) (ltb u places) {x = cond (eqb (getD l u 0) 0) (set l u (packed b n)) (withMark l u)} {y = l}
+      (λ _. by-cases (λ (m : List ℕ). seen m ≡ seen l) (eqb (getD l u 0) 0) {x = set l u (packed b n)} {y = withMark l u}
+      (λ _. ap spot (getD-set-other l u t (packed b n) 0 (λ q. h (sym q)))) (λ _. ap spot (place-stays l u small)))
       (λ _. refl)
 
   -- one with the tag is noted where none was
-  same : (l : List ℕ) (b n : ℕ) → length l ≡ places → 0 < b → b + n ≤ 65535 → (y : Found) → orElse (seen (noted l t b n)) y ≡ orElse (seen l) (At b n)
+  same : (l : List ℕ) (b n : ℕ) → length l ≡ words → 0 < b → b + n ≤ 65535 → (y : Found) → orElse (seen (noted l t b n)) y ≡ orElse (seen l) (At b n)
   unfolding noted
   same l b n h k m y = rw (lt-ltb t places small) (go (eqb (getD l t 0) 0) refl)
     where
       go : (c : Bool) → eqb (getD l t 0) 0 ≡ c
-          → orElse (seen (cond c (set l t (packed b n)) l)) y ≡ orElse (cond c Absent (At (getD l t 0 / 65536) (getD l t 0 % 65536))) (At b n)
+          → orElse (seen (cond c (set l t (packed b n)) (withMark l t))) y ≡ orElse (cond c Absent (At (getD l t 0 / 65536) (getD l t 0 % 65536))) (At b n)
       go true e = ap (λ x. orElse x y) (ap spot (getD-set-same l t (packed b n) 0 (omega arith)) ∙ spot-packed b n k m)
-      go false e = rw e
+      go false e = ap (λ x. orElse x y) (ap spot (place-stays l t small)) ∙ rw e
 
   -- the place that a run leaves, from any
-  run-law : (p : List ℕ) → length p ≤ 65535 → (r : Run) → Within p r → (l : List ℕ) → length l ≡ places → seen (notes r l) ≡ orElse (seen l) (firstIn t r)
+  run-law : (p : List ℕ) → length p ≤ 65535 → (r : Run) → Within p r → (l : List ℕ) → length l ≡ words → seen (notes r l) ≡ orElse (seen l) (firstIn t r)
   run-law p z ended k l h = sym (else-absent (seen l))
   run-law p z broken k l h = sym (else-absent (seen l))
   run-law p z (one f r) k l h =
@@ -104,13 +101,13 @@ module _ (t : ℕ) (small : t < places) where
       go true e = rw (eqb-true (f .tag) t e) (same l (f .start) (f .len) h (k .0 .0) (omega (arith, k .0 .1)) (firstIn t r))
       go false e = ap (λ x. orElse x (firstIn t r)) (other l (f .tag) (f .start) (f .len) (eqb-false (f .tag) t e))
 
-  nothing : seen (replicate places 0) ≡ Absent
-  nothing = rw (getD-replicate {A = ℕ} places t 0 0 small)
+  nothing : seen (replicate words 0) ≡ Absent
+  nothing = rw (getD-replicate {A = ℕ} words t 0 0 (omega (arith, small)))
 
   below : (p : List ℕ) → length p ≤ 65535 → seen (placesOf p) ≡ firstIn t (restFrom p 0)
   unfolding walked
   below p z =
-      run-law p z (restFrom p 0) (within p 0) (replicate places 0) (length-replicate {A = ℕ} places 0)
+      run-law p z (restFrom p 0) (within p 0) (replicate words 0) (length-replicate {A = ℕ} words 0)
       ∙ ap (λ x. orElse x (firstIn t (restFrom p 0))) nothing
 
 -- at every tag
@@ -118,10 +115,19 @@ at-tag : (p : List ℕ) → length p ≤ 65535 → (t : ℕ) → lookup p (place
 unfolding lookup
 at-tag p z t = by-cases (λ (x : Found). x ≡ firstIn t (restFrom p 0)) (ltb t places) (λ e. below t (ltb-true t places e) p z) (λ e. refl)
 
--- THE LAW: the view by the walk's places is that of the payload
+-- THE LAW: the view by the walk's places and marks is that of the payload
 pub same-view : (p : List ℕ) → length p ≤ 65535 → viewBy p (placesOf p) ≡ viewOf p
 unfolding viewOf viewBy
-same-view p z = λ i. record { bytes = p; at = λ t. at-tag p z t i }
+same-view p z = λ i. record { bytes = p; at = λ t. at-tag p z t i; times = λ t. often-tag p z t i }
+
+-- where no tag is marked none stands twice
+pub not-twice : (p l : List ℕ) {t : ℕ} → t < places → unmarked l ≡ true → twice t (viewBy p l) ≡ false
+unfolding twice viewBy often
+not-twice p l {t} h e = rw (lt-ltb t places h, none-marked l h e) (go (eqb (getD l t 0) 0))
+  where
+    go : (b : Bool) → isTwice (cond b Nowhere Once) ≡ false
+    go true = refl
+    go false = refl
 
 -- WHAT STANDS AT A PLACE, read without a look at the payload first: all of it, or nothing
 part-past : (s : List ℕ) (at n : ℕ) → length s < at + n → part s at n ≡ []

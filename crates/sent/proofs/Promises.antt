@@ -8,6 +8,8 @@ use Rattle.sent.proofs.Unique.{one-filling}
 use Rattle.sent.proofs.fill as fill
 use Rattle.sent.proofs.none as none
 use Rattle.sent.proofs.has as has
+use Rattle.sent.proofs.stands as stands
+use Rattle.sent.proofs.none_twice as none-twice
 use Rattle.sent.proofs.holds as holds
 use Rattle.sent.proofs.value as value
 
@@ -25,3 +27,9 @@ holds-one M 𝓤 H A m r κs a g z z′ ws ws′ = plain 𝓤 (λ p q. one-equal
 
 pub value-one : OneSeen value.ended (λ M. value.clauses {M = M}) (List ℕ) (λ κs z. now z)
 value-one M 𝓤 H A m r κs a g z z′ ws ws′ = plain 𝓤 (λ p q. one-equal p q)
+
+pub stands-one : OneOutcome stands.ended (λ M. stands.clauses {M = M})
+stands-one M 𝓤 H A m r κs a g z z′ ws ws′ = plain 𝓤 (λ p q. one-equal p q)
+
+pub none-twice-one : OneOutcome none-twice.ended (λ M. none-twice.clauses {M = M})
+none-twice-one M 𝓤 H A m r κs a g z z′ ws ws′ = plain 𝓤 (λ p q. one-equal p q)

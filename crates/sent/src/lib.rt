@@ -1,23 +1,43 @@
-// The fields of a payload, found by one walk: for each tag below 0x60 where its first value stands. Nothing walks the payload again.
+// The fields of a payload, found by one walk: for each tag that has a place where its first value stands, and whether it stands twice.
+// Nothing walks the payload again.
 use fields::Found;
 use fields::Step;
+use fields::Times;
 ghost use mathlib.Core.Path.{_≡_};
 ghost use Rattle.fields.specs.Fields.{restFrom, firstIn, valueOf, has, val, holds};
 ghost use lib.ListN.{replicate};
-ghost use Rattle.sent.specs.Sent.{places, noted, Filled, spot, lookup, viewBy};
+ghost use Prim.Native.Nat.{_<_};
+ghost use Rattle.sent.specs.Sent.{places, words, marked, withMark, unmarked, noted, Filled, spot, lookup, viewBy};
 
-// Tags below this have a place.
-pub const PLACES: usize = 96;
+// Tags below this have a place. It holds a value's start and its length in 16 bits each, and is 0 where the tag is absent: one word a tag,
+// so that clearing them costs little.
+pub const PLACES: usize = 93;
 
-// A place holds a value's start and its length in 16 bits each, and is 0 where the tag is absent: one word a tag, so that clearing
-// them costs little.
-pub type Places = [u32; PLACES];
+// Behind the places stands a mark for each tag that stands twice, 32 in a word.
+pub const WORDS: usize = 96;
+
+pub type Places = [u32; WORDS];
 
 // No tag seen yet.
 pub fn none() -> Places
-    ensures { λ r. ⌜ r ≡ replicate places 0 ⌝ }
+    ensures { λ r. ⌜ r ≡ replicate words 0 ⌝ }
 {
-    [0u32; PLACES]
+    [0u32; WORDS]
+}
+
+fn is_marked(at: &Places, t: usize) -> bool
+    requires { ⌜ t < places ⌝ }
+    ensures { λ r. ⌜ r ≡ marked (now (at .entry)) t ⌝ }
+{
+    (at[PLACES + t / 32] >> (t % 32)) % 2 == 1
+}
+
+fn mark(at: &mut Places, t: usize)
+    requires { ⌜ t < places ⌝ }
+    ensures { λ r. ⌜ now (at .exit) ≡ withMark (now (at .entry)) t ⌝ }
+{
+    let w = PLACES + t / 32;
+    at[w] = at[w] | 1 << (t % 32);
 }
 
 fn note(at: &mut Places, tag: u8, start: usize, len: usize)
@@ -27,11 +47,13 @@ fn note(at: &mut Places, tag: u8, start: usize, len: usize)
     if t < PLACES {
         if at[t] == 0 {
             at[t] = (start % 65536) as u32 * 65536 + (len % 65536) as u32;
+        } else {
+            mark(at, t);
         }
     }
 }
 
-// The walk: notes the first value with each tag, and tells whether the payload ends at a field's end.
+// The walk: notes the first value with each tag, marks a tag that it meets again, and tells whether the payload ends at a field's end.
 pub fn fill(p: &[u8], at: &mut Places) -> bool
     ensures { λ r. ⌜ Filled (now (p .entry)) (now (at .entry)) r (now (at .exit)) ⌝ }
 {
@@ -86,6 +108,31 @@ pub fn has(p: &[u8], at: &Places, tag: u8) -> bool
         return false;
     };
     true
+}
+
+// How often the field is there.
+pub fn stands(p: &[u8], at: &Places, tag: u8) -> Times
+    ensures { λ r. ⌜ r ≡ viewBy (now (p .entry)) (now (at .entry)) .times tag ⌝ }
+{
+    let t = tag as usize;
+    if PLACES <= t {
+        return fields::stands(p, tag);
+    }
+    if is_marked(at, t) {
+        return Times::Twice;
+    }
+    if at[t] == 0 {
+        return Times::Absent;
+    }
+    Times::Once
+}
+
+// Whether no tag that has a place stands twice.
+pub fn none_twice(at: &Places) -> bool
+    ensures { λ r. ⌜ r ≡ unmarked (now (at .entry)) ⌝ }
+{
+    let marks = at[PLACES] | at[PLACES + 1] | at[PLACES + 2];
+    marks == 0
 }
 
 // The value at a place of any payload: nothing where the place is empty, or past the end.

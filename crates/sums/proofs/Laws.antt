@@ -7,7 +7,7 @@ use mathlib.Core.List.{List}
 use lib.ListN.{length, drop, getD, replicate}
 use lib.Seq.{getD-drop}
 use Rattle.wire.specs.Wire.{num16}
-use Rattle.sent.specs.Sent.{places, walked, placesOf, Filled, viewBy}
+use Rattle.sent.specs.Sent.{words, walked, placesOf, Filled, viewBy}
 use Rattle.sent.proofs.Laws.{same-view}
 use Rattle.card.specs.Values.{u32}
 use Rattle.manual.specs.Request.{payload}
@@ -35,7 +35,7 @@ last-word r = λ i. first i * 256 + getD-drop (length r - 2) r 1 0 i
     first = getD-drop (length r - 2) r 0 0 ∙ ap (λ k. getD r k 0) none
 
 -- what a request sends, by the places that one walk over its payload leaves
-pub one-walk : (q : List ℕ) {p l l′ : List ℕ} {r : Bool} → p ≡ payload q → l ≡ replicate places 0 → Filled p l r l′ → viewBy p l′ ≡ sentIn q
+pub one-walk : (q : List ℕ) {p l l′ : List ℕ} {r : Bool} → p ≡ payload q → l ≡ replicate words 0 → Filled p l r l′ → viewBy p l′ ≡ sentIn q
 unfolding sentIn
 one-walk q {p} {l} {l′} e f w =
     ap (viewBy p) (w .places ∙ ap (walked p) f) ∙ ap (λ (s : List ℕ). viewBy s (placesOf s)) e ∙ same-view (payload q) (omega (arith, payload-short q))

@@ -28,13 +28,18 @@ mul-at-2 c = search needs
 element-write-at : tie.Need-element-write-at
 element-write-at c = search needs
 
+mark-requires : tie.Need-mark-requires
+mark-requires c κs = search needs
+
 returns : tie.Need-returns
 unfolding noted
 returns c = simp (lt-ltb _ _ (c .before .before .if1 .taken), eq-eqb _ _ (c .if2 .taken))
 
 returns-2 : tie.Need-returns-2
 unfolding noted
-returns-2 c = simp (lt-ltb _ _ (c .before .before .if1 .taken), ne-eqb _ _ (c .if2 .left))
+returns-2 c =
+    let n = c .before .before in
+    simp (lt-ltb _ _ (n .before .before .if1 .taken), ne-eqb _ _ (n .if2 .left)) (c .mark .ensures)
 
 returns-3 : tie.Need-returns-3
 unfolding noted
@@ -52,6 +57,7 @@ note-spec =
     add-at
     mul-at-2
     element-write-at
+    mark-requires
     returns
     returns-2
     returns-3)
