@@ -186,6 +186,56 @@ def usual(ins: int) -> bytes:
     return request(ins, *codes(ins), *OWN_FIELDS[ins])
 
 
+# ---------------------------------------------------------------- tags that stand twice
+
+
+def tags(hexes: str) -> tuple:
+    return tuple(bytes.fromhex(hexes))
+
+
+# The tags of each command's entry, of which none may stand twice.
+ONCE = {
+    READ_CARD: tags("10"),
+    CREATE_WALLET: tags("10 01 11 19"),
+    CHECK_WALLET: tags("10 01 16 14"),
+    SET_PIN: tags("10 01 11 19 12 13"),
+    SIGN: tags("10 01 11 19 50 51"),
+    VERIFY_CARD: tags("10 01 16"),
+    VALIDATE_CARD: tags("10 01 11"),
+    PURGE_WALLET: tags("10 01 11"),
+    READ_USER_DATA: tags("10 01"),
+    WRITE_USER_DATA: tags("10 01 11 2A 2B 2C 2D"),
+    WRITE_ISSUER_DATA: tags("10 01 23 32 33 35"),
+    READ_ISSUER_DATA: tags("10 01 23"),
+}
+# Others, which may, though one might think otherwise: of another command, or of the manual alone.
+REPEATED = {
+    READ_CARD: tags("01 11 19"),
+    CREATE_WALLET: tags("05 33"),
+    CHECK_WALLET: tags("11 19"),
+    SET_PIN: tags("1E"),
+    SIGN: tags("52 34 57"),
+    VERIFY_CARD: tags("14"),
+    VALIDATE_CARD: tags("19"),
+    PURGE_WALLET: tags("19"),
+    READ_USER_DATA: tags("2A 2B 2C 2D 11"),
+    WRITE_USER_DATA: tags("19"),
+    WRITE_ISSUER_DATA: tags("11 24 25"),
+    READ_ISSUER_DATA: tags("32 35"),
+}
+# A value for each of the tags above that the cards above take. One byte less, and none of them is right.
+RIGHT = {
+    0x01: CID, 0x10: PIN1, 0x11: PIN2, 0x12: some(32, 12), 0x13: some(32, 13), 0x14: KEY_CHALLENGE, 0x16: CHALLENGE, 0x19: CVC,
+    0x23: b"\0", 0x2A: b"A", 0x2B: b"B", 0x2C: counter(44), 0x2D: counter(45), 0x32: b"I", 0x33: some(64, 33), 0x35: counter(10),
+    0x50: some(32, 50), 0x51: b"\x20",
+}
+
+
+def each_once(ins: int) -> list:
+    """The fields of a request that the command takes, every tag of its entry in it."""
+    return [(tag, RIGHT[tag]) for tag in ONCE[ins]]
+
+
 # ---------------------------------------------------------------- the provider
 
 

@@ -1,9 +1,8 @@
 """Cases for checks 1 to 7: lengths and Lc, CLA, INS, P1 and P2, the fields of a payload, PIN1 and CID."""
 
 from twin.bench import (
-    ACCESS, CHALLENGE, CID, CONFIRM, CONFIRM_CVC, DRAW, NAMES, PIN1, PIN2, READ_CARD, READ_ISSUER_DATA,
-    READ_USER_DATA, SIGN, VERIFY_CARD, WRITE_USER_DATA, fresh, hashes, header, join, loaded, long_field, long_lc,
-    off_by_last, plain, request, short_lc, sized, some,
+    ACCESS, CHALLENGE, CID, CONFIRM, DRAW, NAMES, PIN1, PIN2, READ_CARD, READ_USER_DATA, SIGN, VERIFY_CARD, WRITE_USER_DATA, fresh,
+    hashes, header, join, loaded, long_field, long_lc, off_by_last, plain, request, short_lc, sized, some,
 )
 from twin.request import field
 
@@ -123,36 +122,6 @@ def stored_lengths(script):
                 plain(VERIFY_CARD, long_field(0x10, PIN1), long_field(0x01, CID), long_field(0x16, CHALLENGE)))
 
 
-def twice(script):
-    wrong1, wrong2, wrong_cid = off_by_last(PIN1), off_by_last(PIN2), off_by_last(CID)
-    card = loaded(cvc_used=1)
-    rows = (
-        ("PIN1: right, wrong", plain(READ_CARD, (0x10, PIN1), (0x10, wrong1))),
-        ("PIN1: wrong, right", plain(READ_CARD, (0x10, wrong1), (0x10, PIN1))),
-        ("PIN1: empty, right", plain(READ_CARD, (0x10, b""), (0x10, PIN1))),
-        ("PIN1: right twice", plain(READ_CARD, (0x10, PIN1), (0x10, PIN1))),
-        ("CID: right, wrong", request(READ_USER_DATA, (0x01, wrong_cid))),
-        ("CID: wrong, right", plain(READ_USER_DATA, (0x01, wrong_cid), *ACCESS)),
-        ("PIN2: right, wrong", request(SIGN, *CONFIRM_CVC, (0x11, wrong2), *hashes(1))),
-        ("PIN2: wrong, right", request(SIGN, (0x11, wrong2), *CONFIRM_CVC, *hashes(1))),
-        ("CVC: right, wrong", request(SIGN, *CONFIRM_CVC, (0x19, b"124"), *hashes(1))),
-        ("CVC: wrong, right", request(SIGN, (0x19, b"124"), *CONFIRM_CVC, *hashes(1))),
-        ("hash array: empty, right", request(SIGN, *CONFIRM_CVC, (0x50, b""), *hashes(1))),
-        ("hash array: right, empty", request(SIGN, *CONFIRM_CVC, *hashes(1), (0x50, b""))),
-        ("hash size: 31, 32", request(SIGN, *CONFIRM_CVC, (0x51, b"\x1f"), *hashes(1))),
-        ("hash size: 32, 31", request(SIGN, *CONFIRM_CVC, *hashes(1), (0x51, b"\x1f"))),
-        ("Challenge: right, short", request(VERIFY_CARD, (0x16, CHALLENGE), (0x16, b"a"))),
-        ("Challenge: short, right", request(VERIFY_CARD, (0x16, b"a"), (0x16, CHALLENGE))),
-        ("User_Data: one, two", request(WRITE_USER_DATA, (0x2A, b"one"), (0x2A, b"two"))),
-        ("User_Data: empty, two", request(WRITE_USER_DATA, (0x2A, b""), (0x2A, b"two"))),
-        ("User_Data: one, empty", request(WRITE_USER_DATA, (0x2A, b"one!"), (0x2A, b""))),
-        ("Mode: 0, 1", request(READ_ISSUER_DATA, (0x23, b"\0"), (0x23, b"\1"))),
-        ("Mode: 1, 0", request(READ_ISSUER_DATA, (0x23, b"\1"), (0x23, b"\0"))),
-    )
-    for words, one in rows:
-        script.case(words, card, one)
-
-
 def unknown_tags(script):
     script.use(loaded())
     rows = (
@@ -195,7 +164,6 @@ GROUPS = (
     ("P1 and P2", parameters),
     ("payloads and their ends", walks),
     ("lengths of fields, stored and read back", stored_lengths),
-    ("a tag that stands twice", twice),
     ("unknown tags", unknown_tags),
     ("PIN1 and CID", codes_and_cid),
 )

@@ -162,11 +162,10 @@ OWN = {
 
 
 def unknown_fields(chance: Chance, draft: Draft):
-    """Fields of any tag; a tag that the command reads comes after the one it takes, and so changes nothing."""
-    for _ in range(chance.randint(1, 3)):
-        tag = chance.choice(draft.fields)[0] if chance.often(0.3) else chance.randrange(256)
-        first = max(draft.places(tag), default=-1) + 1
-        draft.fields.insert(chance.randint(first, len(draft.fields)), (tag, chance.randbytes(chance.randrange(20))))
+    """Fields of two tags that the command does not read, each as often as it comes."""
+    two = chance.sample([tag for tag in range(256) if tag not in COMMANDS[draft.ins].reads], 2)
+    for tag in chance.choices(two, k=chance.randint(1, 4)):
+        draft.fields.insert(chance.randint(0, len(draft.fields)), (tag, chance.randbytes(chance.randrange(20))))
 
 
 # ---------------------------------------------------------------- damage to a draft
@@ -193,31 +192,40 @@ def half_field(chance: Chance, draft: Draft, card: Card):
     draft.tail = chance.randbytes(1) + chance.choice(rest)
 
 
+def doubled_field(chance: Chance, draft: Draft, card: Card):
+    """A field once or twice more, with the same value or another, beside it or apart."""
+    if not draft.fields:
+        return
+    at = chance.randrange(len(draft.fields))
+    tag, value = draft.fields[at]
+    for _ in range(chance.choice((1, 1, 1, 2))):
+        again = chance.choice((value, b"", chance.randbytes(len(value))))
+        draft.fields.insert(chance.choice((at, at + 1, chance.randint(0, len(draft.fields)))), (tag, again))
+
+
 def wrong_value(chance: Chance, draft: Draft, places: list):
-    """At one of these places: another value, another length, none, or a wrong one before the right one."""
+    """At one of these places: another value, another length, or none."""
     if not places:
         return
     at = chance.choice(places)
     tag, value = draft.fields[at]
-    kind = chance.randrange(8)
+    kind = chance.randrange(7)
     if kind == 0:
         del draft.fields[at]
-    elif kind == 1:
-        draft.fields.insert(chance.randint(0, at), (tag, chance.randbytes(len(value))))
     else:
         draft.fields[at] = (tag, other_value(chance, value, kind))
 
 
 def other_value(chance: Chance, value: bytes, kind: int) -> bytes:
-    if kind == 2:
+    if kind == 1:
         return chance.changed_bit(value) if value else b"\0"
-    if kind == 3:
+    if kind == 2:
         return value[:-1]
-    if kind == 4:
+    if kind == 3:
         return value + chance.choice((b"\0", chance.randbytes(1)))
-    if kind == 5:
+    if kind == 4:
         return b"\0" + value
-    if kind == 6:
+    if kind == 5:
         return chance.choice((b"", b"\0", b"\1"))
     return chance.randbytes(chance.choice((2, 3, 4, 5, 15, 16, 17, 31, 32, 33, 63, 64, 65, 320, 352, DATA_ROOM, 513)))
 
@@ -261,8 +269,8 @@ def odd_hashes(chance: Chance, draft: Draft, card: Card):
 
 
 DAMAGES = (
-    other_class, other_command, other_parameters, other_parameters, half_field, one_wrong_field, one_own_field,
-    one_own_field, one_own_field, no_own_field, odd_hashes, odd_hashes,
+    other_class, other_command, other_parameters, other_parameters, half_field, doubled_field, doubled_field, doubled_field,
+    one_wrong_field, one_own_field, one_own_field, one_own_field, no_own_field, odd_hashes, odd_hashes,
     wrong_tag(Tag.PIN1), wrong_tag(Tag.CID), wrong_tag(Tag.PIN2), wrong_tag(Tag.CVC), wrong_tag(Tag.PIN2, Tag.CVC),
     wrong_tag(Tag.MODE, Tag.PUBLIC_KEY_CHALLENGE, Tag.USER_DATA),
 )

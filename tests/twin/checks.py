@@ -36,7 +36,12 @@ def parameters_not_zero(tap: Tap) -> bool:
 
 
 def malformed(tap: Tap) -> bool:
-    return tap.fields is None
+    return tap.values is None
+
+
+def stands_twice(tap: Tap) -> bool:
+    """Whether or not this card needs the value."""
+    return any(tap.stands_twice(tag) for tag in command_of(tap).reads)
 
 
 def pin1_differs(tap: Tap) -> bool:
@@ -77,6 +82,7 @@ CHECKS = (
     (4, SW_NEED_ENCRYPTION, encryption_named),
     (4, SW_INVALID_PARAMS, parameters_not_zero),
     (5, SW_INVALID_PARAMS, malformed),
+    (5, SW_INVALID_PARAMS, stands_twice),
     (6, SW_INVALID_PARAMS, pin1_differs),
     (7, SW_INVALID_PARAMS, cid_differs),
     (8, SW_INVALID_STATUS, not_activated),

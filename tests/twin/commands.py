@@ -10,6 +10,7 @@ SW_PROCESS_COMPLETED = 0x9000
 DATA_ROOM = 512
 MOST_HASHES = 10
 HASH_LENGTH = 32
+ACCESS = (Tag.PIN1, Tag.CID)
 
 
 class Done(NamedTuple):
@@ -21,8 +22,9 @@ class Done(NamedTuple):
 
 
 class Command:
-    """What a command may say of itself. Each below says what differs."""
+    """What a command may say of itself. Each below says what differs. `reads` are the tags of its entry: none may stand twice."""
 
+    reads = ACCESS
     allowed_in = (EMPTY, LOADED)
     before_activation = False
     ignores_cid = False
@@ -46,6 +48,7 @@ class Command:
 
 
 class ReadCard(Command):
+    reads = (Tag.PIN1,)
     allowed_in = (EMPTY, LOADED, PURGED)
     before_activation = True
     ignores_cid = True
@@ -64,6 +67,7 @@ class ReadCard(Command):
 
 
 class CreateWallet(Command):
+    reads = (*ACCESS, Tag.PIN2, Tag.CVC)
     allowed_in = (EMPTY,)
     asks_pin2 = True
     asks_cvc = True
@@ -86,6 +90,7 @@ class CreateWallet(Command):
 
 
 class CheckWallet(Command):
+    reads = (*ACCESS, Tag.CHALLENGE, Tag.PUBLIC_KEY_CHALLENGE)
     allowed_in = (LOADED,)
 
     def fields_fit(self, tap):
@@ -112,6 +117,7 @@ class CheckWallet(Command):
 
 
 class SetPin(Command):
+    reads = (*ACCESS, Tag.PIN2, Tag.CVC, Tag.NEW_PIN1, Tag.NEW_PIN2)
     asks_pin2 = True
     asks_cvc = True
 
@@ -133,6 +139,7 @@ class SetPin(Command):
 
 
 class Sign(Command):
+    reads = (*ACCESS, Tag.PIN2, Tag.CVC, Tag.HASH_ARRAY, Tag.HASH_SIZE)
     allowed_in = (LOADED,)
     asks_pin2 = True
     asks_cvc = True
@@ -178,6 +185,7 @@ class Sign(Command):
 
 
 class VerifyCard(Command):
+    reads = (*ACCESS, Tag.CHALLENGE)
     allowed_in = (EMPTY, LOADED, PURGED)
 
     def fields_fit(self, tap):
@@ -191,6 +199,7 @@ class VerifyCard(Command):
 
 
 class ValidateCard(Command):
+    reads = (*ACCESS, Tag.PIN2)
     asks_pin2 = True
 
     def condition(self, tap):
@@ -209,6 +218,7 @@ class ValidateCard(Command):
 
 
 class PurgeWallet(Command):
+    reads = (*ACCESS, Tag.PIN2)
     allowed_in = (LOADED,)
     asks_pin2 = True
 
@@ -236,6 +246,7 @@ class ReadUserData(Command):
 class WriteUserData(Command):
     DATA = (Tag.USER_DATA, Tag.USER_PROTECTED_DATA)
     COUNTERS = (Tag.USER_COUNTER, Tag.USER_PROTECTED_COUNTER)
+    reads = (*ACCESS, Tag.PIN2, *DATA, *COUNTERS)
 
     def needs_pin2(self, tap):
         return tap.has(Tag.USER_PROTECTED_DATA) or tap.has(Tag.USER_PROTECTED_COUNTER)
@@ -265,6 +276,8 @@ def mode_fits(tap: Tap) -> bool:
 
 
 class WriteIssuerData(Command):
+    reads = (*ACCESS, Tag.MODE, Tag.ISSUER_DATA, Tag.ISSUER_DATA_SIGNATURE, Tag.ISSUER_DATA_COUNTER)
+
     def fields_fit(self, tap):
         return (
             mode_fits(tap)
@@ -294,6 +307,7 @@ class WriteIssuerData(Command):
 
 
 class ReadIssuerData(Command):
+    reads = (*ACCESS, Tag.MODE)
     allowed_in = (EMPTY, LOADED, PURGED)
     before_activation = True
 

@@ -1,12 +1,14 @@
-"""Recordings of good lines: what is `same` and what is `other`, answers that do not fit, and what is summed."""
+"""Recordings of good lines: what is `same` and what is `other`, answers that do not fit, what is summed, fields that stand twice."""
 
 from twin.bench import (
-    CHALLENGE, CHECK_WALLET, CREATE_WALLET, OWN_FIELDS, PIN1, PIN2, PURGE_WALLET, READ_CARD, READ_ISSUER_DATA, READ_USER_DATA,
-    REPEAT, SET_PIN, SIGN, VALIDATE_CARD, VERIFY_CARD, WRITE_ISSUER_DATA, WRITE_USER_DATA, confirmed, hashes, issuer_data, key,
-    off_by_last, plain, request, sign, some,
+    ACCESS, CHALLENGE, CHECK_WALLET, CID, CONFIRM, CREATE_WALLET, DRAW, OWN_FIELDS, PIN1, PIN2, PURGE_WALLET, READ_CARD,
+    READ_ISSUER_DATA, READ_USER_DATA, REPEAT, SET_PIN, SIGN, VALIDATE_CARD, VERIFY_CARD, WRITE_ISSUER_DATA, WRITE_USER_DATA, confirmed,
+    hashes, issuer_data, key, off_by_last, plain, request, sign, some,
 )
+from twin.card import settle
 from twin.image import ED25519, SECP256K1
 from twin.recorder import Recording
+from twin.script import hexed
 
 READ = plain(READ_CARD, (0x10, PIN1))
 SHORT = bytes.fromhex("00F2")
@@ -240,14 +242,6 @@ def used_up(book: list):
     recording.tap(sign(2))
 
 
-def hashes_twice(book: list):
-    """Until a change of the rules the first field of a tag counts, also here."""
-    recording = on_a_wallet(book, "sums: the hash array stands twice", curve="ed25519")
-    recording.tap(confirmed(SIGN, *hashes(2), hashes(5)[0]))
-    recording.tap(confirmed(SIGN, (0x51, b"\x20"), hashes(1)[0], (0x51, b"\x21")))
-    recording.tap(plain(SIGN, *hashes(1), (0x11, PIN2), (0x01, bytes.fromhex("AA00000000016675")), (0x10, PIN1)))
-
-
 def no_signs(book: list):
     """Other commands with the hash fields in them, and responses of 9001 to 9003."""
     recording = on_a_wallet(book, "sums: hash arrays in other commands")
@@ -259,12 +253,56 @@ def no_signs(book: list):
     recording.tap(sign(3))
     codes = [PIN1, PIN2]
     for new in ((PIN1, PIN2), (some(32, 1), PIN2), (some(32, 1), some(32, 2)), (some(32, 3), some(32, 4))):
-        fields = (0x10, codes[0]), (0x01, bytes.fromhex("AA00000000016675")), (0x11, codes[1])
+        fields = (0x10, codes[0]), (0x01, CID), (0x11, codes[1])
         recording.tap(plain(SET_PIN, *fields, (0x12, new[0]), (0x13, new[1]), *hashes(4)))
         codes = new
     recording.tap(plain(SIGN, (0x10, codes[0]), fields[1], (0x11, codes[1]), *hashes(2)))
     recording.tap(sign(2))
 
 
+# ---------------------------------------------------------------- fields that stand twice
+
+
+def hashes_twice(book: list):
+    """Of two arrays, or two sizes, none is signed and nothing is summed."""
+    recording = on_a_wallet(book, "sums: the hash array stands twice", curve="ed25519")
+    for sent in (confirmed(SIGN, *hashes(2), hashes(5)[0]), confirmed(SIGN, (0x51, b"\x20"), hashes(1)[0], (0x51, b"\x21"))):
+        assert recording.tap(sent) == "6A86", sent
+    recording.tap(plain(SIGN, *hashes(1), (0x11, PIN2), (0x01, CID), (0x10, PIN1)))
+
+
+def fields_twice(book: list):
+    """The play goes on after them, with the codes that were."""
+    recording = on_a_wallet(book, "fields that stand twice")
+    refused = (
+        plain(READ_CARD, (0x10, PIN1), (0x10, PIN1)), request(READ_USER_DATA, (0x01, CID)),
+        confirmed(SET_PIN, (0x12, PIN1), (0x13, some(32, 1)), (0x13, some(32, 2))), request(WRITE_USER_DATA, (0x2A, b"x"), (0x2A, b"x")),
+        request(WRITE_ISSUER_DATA, *issuer_data(), issuer_data()[0]),
+    )
+    for sent in refused:
+        assert recording.tap(sent) == "6A86", sent
+    assert recording.tap(sign(1), some(64)).endswith("9000")
+    assert recording.tap(refused[0], some(3)) == "6A86", "answers to a refused command"
+    taken = request(READ_CARD, (0x01, CID)), request(WRITE_ISSUER_DATA, *issuer_data(), (0xEE, b"x"), (0xEE, b"x"))
+    for sent in taken:
+        assert recording.tap(sent).endswith("9000"), sent
+
+
+def first_was_taken(book: list):
+    """Recorded on a card that took the first of two: `other` at each of these."""
+    recording = on_a_wallet(book, "other: of a card that took the first of two fields")
+    rows = (
+        (SIGN, (*ACCESS, *CONFIRM, *hashes(2)), hashes(5)[0]), (SET_PIN, (*ACCESS, *CONFIRM, (0x12, PIN1), (0x13, PIN2)), (0x13, some(32))),
+        (WRITE_USER_DATA, (*ACCESS, (0x2A, b"one")), (0x2A, b"two")), (READ_USER_DATA, ACCESS, (0x01, CID)),
+    )
+    for ins, fields, again in rows:
+        answers = recording.fitting(plain(ins, *fields), DRAW)
+        before = settle(recording.play.image, plain(ins, *fields), DRAW, answers).response
+        assert before[-2:] == b"\x90\0", before
+        recording.tap(plain(ins, *fields, again), answers, expected=hexed(before))
+        recording.tap(READ)
+
+
 GROUPS = (others, others_of_two_bytes, others_of_refusal_4, others_all, empty_answers, answers_not_asked, wrong_answers,
-          unchanged_after_4, signs, repeats, wallets, dead_wallets, refused_signs, used_up, hashes_twice, no_signs)
+          unchanged_after_4, signs, repeats, wallets, dead_wallets, refused_signs, used_up, no_signs, hashes_twice, fields_twice,
+          first_was_taken)

@@ -4,11 +4,11 @@ from collections import Counter
 from typing import Callable, NamedTuple
 
 from twin.bench import (
-    CHECK_WALLET, CREATE_WALLET, CURVES, NAMES, PURGE_WALLET, READ_CARD, READ_ISSUER_DATA, READ_USER_DATA, SET_PIN, SIGN,
+    CHECK_WALLET, CREATE_WALLET, CURVES, NAMES, ONCE, PURGE_WALLET, READ_CARD, READ_ISSUER_DATA, READ_USER_DATA, SET_PIN, SIGN,
     STATUSES, VALIDATE_CARD, VERIFY_CARD, WRITE_ISSUER_DATA, WRITE_USER_DATA,
 )
 from twin.image import EMPTY, LOADED, PURGED, TOP_16, TOP_32, Card
-from twin.request import fields_of, payload_of
+from twin.request import fields_of, payload_of, values_of
 
 
 class Call(NamedTuple):
@@ -133,6 +133,11 @@ def row_of(request: bytes):
     return request[1] if request[1] in NAMES else OTHER
 
 
+def tags_twice(request: bytes) -> list:
+    """The tags that stand twice in a request of a good length; none where it is malformed."""
+    return [tag for tag, values in (values_of(payload_of(request)) or {}).items() if len(values) > 1]
+
+
 class Reached:
     """How often each thing was reached. Sums of two are made by `update` of `times`."""
 
@@ -155,8 +160,17 @@ class Reached:
         if reason == 0:
             state = before.status if before.activated else NOT_ACTIVATED
             self.times["done in", row, state, before.curve] += 1
+        if reason in (0, 5):
+            self.stood_twice(row, reason, tags_twice(request))
         for end in ENDS_OF.get((row, reason), ()):
             self.times["end", end.name] += end.test(before, after, request)
+
+    def stood_twice(self, row, reason: int, tags: list):
+        """Done with some tags twice; or refused over one, which is told only where no other stands twice."""
+        if reason == 0:
+            self.times["repeated", row] += bool(tags)
+        elif len(tags) == 1:
+            self.times["twice", row, *tags] += 1
 
 
 ENDS_OF = {}
@@ -201,6 +215,15 @@ def by_state(times: Counter) -> str:
     return table(head, rows)
 
 
+def by_tag(times: Counter) -> str:
+    """Commands against the one tag that stood twice where check 5 refused; and how often they were done with another one twice."""
+    tags = sorted({tag for once in ONCE.values() for tag in once})
+    head = ["refused: it stood twice", *(f"{tag:02X}" for tag in tags), "done: another did"]
+    rows = [[name, *(cell(times, ("twice", ins, tag), tag in ONCE[ins]) for tag in tags), str(times["repeated", ins])]
+            for ins, name in NAMES.items()]
+    return table(head, rows)
+
+
 def by_word(times: Counter, name: str, call: Call) -> str:
     head = [f"{name}'s status word", *(f"{word:04X}" for word in call.words)]
     return table(head, [["times", *(str(times["word", name, word]) for word in call.words)]])
@@ -212,7 +235,7 @@ def by_end(times: Counter) -> str:
 
 def tables(times: Counter) -> str:
     of_calls = [by(times, *call) for by in (by_check, by_word) for call in CALLS.items()]
-    return "\n\n".join((*of_calls, by_state(times), by_end(times)))
+    return "\n\n".join((*of_calls, by_state(times), by_tag(times), by_end(times)))
 
 
 # ---------------------------------------------------------------- what was to be reached
@@ -238,6 +261,9 @@ def wanted() -> dict:
     for state, commands in DONE_IN.items():
         keys |= {("done in", ins, state, curve): f"{NAMES[ins]} done, {STATES[state]}, {CURVES[curve]}"
                  for ins in commands for curve in CURVES}
+    for ins, once in ONCE.items():
+        keys |= {("twice", ins, tag): f"{NAMES[ins]} refused with {tag:02X} twice" for tag in once}
+        keys["repeated", ins] = f"{NAMES[ins]} done with a tag twice that it does not read"
     return keys | {("end", end.name): end.name for end in ENDS}
 
 

@@ -55,18 +55,24 @@ def payload_of(request: bytes) -> Optional[bytes]:
     return request[start:] if length >= 1 and start + length == len(request) else None
 
 
-def fields_of(payload: bytes) -> Optional[dict]:
-    """The first value of every tag, or None where the payload does not end at a field's end."""
-    fields, at = {}, 0
+def values_of(payload: bytes) -> Optional[dict]:
+    """The values of every tag in their order, or None where the payload does not end at a field's end."""
+    values, at = {}, 0
     while at < len(payload):
         start, length = at + 2, number(payload[at + 1 : at + 2])
         if length == 0xFF:
             start, length = at + 4, number(payload[at + 2 : at + 4])
         if start + length > len(payload):
             return None
-        fields.setdefault(payload[at], payload[start : start + length])
+        values.setdefault(payload[at], []).append(payload[start : start + length])
         at = start + length
-    return fields
+    return values
+
+
+def fields_of(payload: bytes) -> Optional[dict]:
+    """The first value of every tag, or None as above."""
+    values = values_of(payload)
+    return None if values is None else {tag: first for tag, (first, *_) in values.items()}
 
 
 def field(tag: int, value: bytes) -> bytes:
@@ -82,18 +88,23 @@ class Tap:
         self.card, self.request = card, request
         self.salt, self.key_salt = draw[:16], draw[16:]
         self.payload = payload_of(request)
-        self.fields = None if self.payload is None else fields_of(self.payload)
+        self.values = None if self.payload is None else values_of(self.payload)
 
     @property
     def ins(self) -> int:
         return self.request[1]
 
     def has(self, tag: int) -> bool:
-        return tag in self.fields
+        return tag in self.values
+
+    def stands_twice(self, tag: int) -> bool:
+        """Two times or more."""
+        return self.has(tag) and len(self.values[tag]) > 1
 
     def value(self, tag: int) -> Optional[bytes]:
-        return self.fields.get(tag)
+        """The first; from check 6 on it is the only one, if the command reads this tag."""
+        return self.values[tag][0] if self.has(tag) else None
 
     def length(self, tag: int) -> int:
         """The length of a field, -1 where it is absent."""
-        return len(self.fields[tag]) if tag in self.fields else -1
+        return len(self.values[tag][0]) if self.has(tag) else -1

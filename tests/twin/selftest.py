@@ -4,7 +4,7 @@ import os
 import sys
 
 sys.path.insert(0, os.path.dirname(os.path.dirname(os.path.abspath(__file__))))
-from twin import selftest_plays, selftest_reasons
+from twin import selftest_plays, selftest_reasons, selftest_twice
 from twin.by_hand import (
     ACCESS, CHALLENGE, CID, CID_FIELD, CONFIRMED, FRESH, KEY, KEY_CHALLENGE, KEY_SALT, PIN1, PIN2, SALT, SHEET_LINES, WITH_WALLET,
     WRITTEN, hashes, questions, refused, sheet, tapped, word_of,
@@ -268,7 +268,7 @@ TESTS = (
     slip_repeat_is_free,
     read_card, create_wallet, check_wallet, set_pin, verify_card, validate_card, purge_wallet, user_data,
     read_issuer_data, what_is_a_card,
-    *selftest_reasons.TESTS, *selftest_plays.TESTS,
+    *selftest_reasons.TESTS, *selftest_twice.TESTS, *selftest_plays.TESTS,
 )
 
 

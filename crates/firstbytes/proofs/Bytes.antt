@@ -3,13 +3,13 @@ use Prim.Native.Nat.{ℕ, _+_, _≤_}
 use native.Mathlib.Omega.{arith}
 use mathlib.Core.Path.{_≡_, refl, sym, ap, _∙_}
 use mathlib.Core.List.{List, [], _∷_, _++_, append-nil}
-use mathlib.Core.Bool.{true}
+use mathlib.Core.Bool.{true, false}
 use lib.ListN.{length, getD, drop, replicate, length-append}
 use lib.Seq.{take-at}
 use Rattle.wire.specs.Wire.{part, joined, be2}
 use Rattle.wire.proofs.Laws.{part-plain, alike-self}
-use Rattle.fields.specs.Fields.{View, headOf, tlv, wellFormed, viewOf, holds, Tagged, fld, each, written}
-use Rattle.fields.proofs.Trip.{wellFormed-written, holds-written}
+use Rattle.fields.specs.Fields.{View, headOf, tlv, wellFormed, viewOf, holds, twice, Tagged, fld, each, written}
+use Rattle.fields.proofs.Trip.{wellFormed-written, twice-written, holds-written}
 use Rattle.text.specs.Text.{ascii, hexDigit, hexOf}
 use Rattle.card.specs.declared.Face.{Face}
 use Rattle.card.specs.declared.Card.{Card}
@@ -40,12 +40,12 @@ lc-is : (q : List ℕ) → length q ≡ 39 → getD q 4 0 ≡ 34 → lcOf q ≡ 
 unfolding lcOf
 lc-is q e f = rw (e, f)
 
--- CHECKS 2 to 12 of READ_CARD on a card that is Empty, from the bytes before the payload, its form and its PIN1
+-- CHECKS 2 to 12 of READ_CARD on a card that is Empty, from the bytes before the payload, its form, and its PIN1, once
 passes :
     (q : List ℕ) (v : View) (m : Matched) (f : Face) → lcOf q ≡ Body 5 → getD q 0 0 ≡ 0 → getD q 1 0 ≡ code ReadCard → getD q 2 0 ≡ 0 → getD q 3 0 ≡ 0
-    → m .pin1 ≡ true → f .front .wallet .status ≡ 1 → judgedBy true v m f q ≡ Pass ReadCard
+    → twice PIN1 v ≡ false → m .pin1 ≡ true → f .front .wallet .status ≡ 1 → judgedBy true v m f q ≡ Pass ReadCard
 unfolding judgedBy plain allowed insOf
-passes q v m f l a b c d p s = rw (l, a, b, c, d, p, s)
+passes q v m f l a b c d o p s = rw (l, a, b, c, d, o, p, s)
 
 module _ (pin : List ℕ) (h : length pin ≡ pinSize) where
   abbrev sent : List Tagged
@@ -71,6 +71,10 @@ module _ (pin : List ℕ) (h : length pin ≡ pinSize) where
   formed : wellFormed (payload (firstRequest pin)) ≡ true
   formed = ap wellFormed payload-is ∙ wellFormed-written sent short
 
+  pin-once : twice PIN1 (sentIn (firstRequest pin)) ≡ false
+  unfolding sentIn
+  pin-once = ap (λ p. twice PIN1 (viewOf p)) payload-is ∙ twice-written PIN1 sent short
+
   pin-held : holds PIN1 (sentIn (firstRequest pin)) pin ≡ true
   unfolding sentIn
   pin-held = ap (λ p. holds PIN1 (viewOf p) pin) payload-is ∙ holds-written PIN1 sent short pin ∙ alike-self pin
@@ -83,7 +87,7 @@ module _ (pin : List ℕ) (h : length pin ≡ pinSize) where
     unfolding firstRequest
     verdict-is =
         ap (λ b. judgedBy b (sentIn q) (matched (c .codes) (sentIn q)) (c .face) q) formed
-        ∙ passes q (sentIn q) (matched (c .codes) (sentIn q)) (c .face) lc refl refl refl refl (ap (λ p. holds PIN1 (sentIn q) p) k ∙ pin-held) e
+        ∙ passes q (sentIn q) (matched (c .codes) (sentIn q)) (c .face) lc refl refl refl refl pin-once (ap (λ p. holds PIN1 (sentIn q) p) k ∙ pin-held) e
 
     said-is : saidTo c q d [] ≡ done readCard (matched (c .codes) (sentIn q)) (c .face) (sentIn q) d []
     unfolding said answered shaped

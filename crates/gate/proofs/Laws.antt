@@ -15,7 +15,7 @@ use Rattle.manual.specs.declared.Command.{Command}
 use Rattle.manual.specs.declared.Verdict.{Verdict}
 use Rattle.manual.specs.declared.Verdict.the-variants.{Pass, Stop}
 use Rattle.manual.specs.Request.{lcOf, fits, command}
-use Rattle.manual.specs.Row.{Matched, Row, Rule, gateOf, headRules, formRules, entryRules, ownRules, rules, passed}
+use Rattle.manual.specs.Row.{Matched, Rule, gateOf, headRules, formRules, entryRules, ownRules, rules, passed}
 use Rattle.manual.specs.Commands.{row}
 use Rattle.manual.specs.Settle.{matched, judgedBy}
 use Rattle.gate.specs.Gate.{entryOf, ownOf, headOf, laterOf, judgedOf}
@@ -83,7 +83,7 @@ module _ (w : Bool) (v : View) (m : Matched) (f : Face) (q : List ℕ) {k : Comm
 
   -- check 11
   pub fields-hold : row k .fields f v ≡ true
-  fields-hold = all-hold .1 .1 .1 .1 .1 .1 .1 .1 .1 .1 .1 .1 .0
+  fields-hold = all-hold .1 .1 .1 .1 .1 .1 .1 .1 .1 .1 .1 .1 .1 .0
 
 -- one that passes checks 1 to 3 has a payload, and its command
 pub heads : (q : List ℕ) {h : Verdict} {k : Command} → h ≡ headOf q → h ≡ Pass k → fits (lcOf q) ≡ true
@@ -114,12 +114,12 @@ module _ (w : Bool) (c : Card) (v : View) (q : List ℕ) where
       ∙ gate-passes (headRules q) (command q) (laterOf (command q) w c v q) (sym eh ∙ d) .0
       ∙ ap (λ l. laterOf l w c v q) (sym (head-command q eh d))
 
-  module _ (k : Command) {g : Verdict} (any : (r : Row) (f : Face) (v′ : View) → g ≡ gateOf (formRules r f w v′ q) (Pass k)) where
+  module _ (k : Command) {g : Verdict} (any : (f : Face) → g ≡ gateOf (formRules (row k) f w v q) (Pass k)) where
     abbrev forms : List Rule
     forms = formRules (row k) (c .face) w v q
 
     eg : g ≡ gateOf forms (Pass k)
-    eg = any (row k) (c .face) v
+    eg = any (c .face)
 
     pub at-form : {n a : ℕ} → g ≡ Stop n a → g ≡ laterOf k w c v q
     at-form d = d ∙ sym (gate-stops forms k (entryOf k c v (ownOf k c v (Pass k))) (sym eg ∙ d))

@@ -15,12 +15,12 @@ ghost use mathlib.Core.Bool.{_&&_, _||_};
 ghost use lib.ListN.{getD};
 ghost use lib.Dec.{eqb};
 ghost use Rattle.wire.specs.Wire.{verdict};
-ghost use Rattle.fields.specs.Fields.{View, holds};
+ghost use Rattle.fields.specs.Fields.{holds};
 ghost use Rattle.sent.specs.Sent.{viewBy};
 ghost use Rattle.card.specs.declared.Face.{Face};
 ghost use Rattle.card.specs.Image.{decode};
 ghost use Rattle.manual.specs.Tags.{PIN1};
-ghost use Rattle.manual.specs.Row.{Row, plain, allowed, asksCvc, gateOf, formRules};
+ghost use Rattle.manual.specs.Row.{plain, single, allowed, asksCvc, gateOf, formRules};
 ghost use Rattle.manual.specs.Commands.{row};
 ghost use Rattle.checks.specs.Columns.{conditionsOf};
 ghost use Rattle.gate.specs.Gate.{cidOk, pin2Ok, cvcOk, entryOf, ownOf, headOf, laterOf};
@@ -64,9 +64,16 @@ pub fn header(q: &[u8]) -> Verdict
     Verdict::Pass(cmd)
 }
 
-// Checks 4 and 5, and then what is handed over.
-fn form(q: &[u8], whole: bool, pass: Verdict) -> Verdict
-    ensures { λ r. ⌜ ((x : Row) (f : Face) (v : View) → r ≡ gateOf (formRules x f whole v (now (q .entry))) pass) ⌝ }
+// No tag of the command's entry stands twice.
+fn has_single(cmd: Command, p: &[u8], places: &Places) -> Check
+    ensures { λ r. ⌜ r ≡ verdict (single (row cmd .reads) (viewBy (now (p .entry)) (now (places .entry)))) ⌝ }
+{
+    wire::checked(reads::once(cmd, p, places))
+}
+
+// Checks 4 and 5, and then what is handed over. Of check 5 there are two: the payload is well formed, and no tag of the entry stands twice.
+fn form(cmd: Command, q: &[u8], p: &[u8], whole: bool, places: &Places, pass: Verdict) -> Verdict
+    ensures { λ r. ⌜ ((f : Face) → r ≡ gateOf (formRules (row cmd) f whole (viewBy (now (p .entry)) (now (places .entry))) (now (q .entry))) pass) ⌝ }
 {
     let plain = is_plain(q);
     let bare = no_parameters(q);
@@ -78,7 +85,11 @@ fn form(q: &[u8], whole: bool, pass: Verdict) -> Verdict
         return Verdict::Stop(4, Outcome::SW_INVALID_PARAMS);
     };
     let Check::Fine = formed else {
-        return Verdict::Stop(5, Outcome::SW_INVALID_PARAMS);
+        return Verdict::Stop(5, Outcome::SW_INVALID_PARAMS); // malformed
+    };
+    let once = has_single(cmd, p, places);
+    let Check::Fine = once else {
+        return Verdict::Stop(5, Outcome::SW_INVALID_PARAMS); // a field twice
     };
     pass
 }
@@ -209,7 +220,7 @@ pub fn judge(cmd: Command, img: &[u8], q: &[u8], p: &[u8], whole: bool, places: 
     ensures { λ r. ⌜ r ≡ laterOf cmd whole (decode (now (img .entry))) (viewBy (now (p .entry)) (now (places .entry))) (now (q .entry)) ⌝ }
 {
     let pass = Verdict::Pass(cmd);
-    let f = form(q, whole, pass);
+    let f = form(cmd, q, p, whole, places, pass);
     let Verdict::Pass(_) = f else {
         return f;
     };

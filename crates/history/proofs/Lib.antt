@@ -17,5 +17,7 @@ pub mod Corollaries
 pub mod Notes
 pub mod Story
 pub mod Rejected
+pub mod Entries
+pub mod Twice
 pub mod Proud
 pub mod Mute

@@ -9,7 +9,7 @@ use lib.Dec.{lit≤}
 use Rattle.wire.specs.Wire.{joined}
 use Rattle.fields.specs.Fields.{fld}
 use Rattle.card.specs.declared.Card.{Card}
-use Rattle.card.specs.Layout.{signatureSize, walletAt, keyAt}
+use Rattle.card.specs.Layout.{pinSize, signatureSize, walletAt, keyAt}
 use Rattle.card.specs.Image.{decode}
 use Rattle.manual.specs.Words.{swProcessCompleted, questionsRoom}
 use Rattle.manual.specs.Tags.{NewPIN1, NewPIN2, Challenge}
@@ -25,7 +25,7 @@ use Rattle.history.specs.Demands.{AnyCard, isRefusal, Asked, noneAsked, 
 use Rattle.history.specs.Demands.{tapsOf, left, Asks, nothing, due, allKinds, Poses, Demand3}
 use Rattle.history.specs.Wrong.{outside, judgedBy, asksBy, saysBy, honest}
 use Rattle.history.specs.Wrong.{refuser, yesSayer, forgetter, repeater, proud, oldCard, greedy, hasty, hoarder}
-use Rattle.history.specs.Wrong.{eager, riser, teller, forger, notary, babbler, stubborn, inventor, mute}
+use Rattle.history.specs.Wrong.{eager, riser, teller, forger, notary, babbler, stubborn, inventor, mute, firstTaker}
 use Rattle.history.proofs.Choice.{both-true, clash}
 use Rattle.history.proofs.Images.{model}
 use Rattle.history.proofs.Story.{run, sheet0, image0, fresh0, sheet1, image1, fresh1, codes1, request, call}
@@ -220,3 +220,12 @@ unfolding run
 mute-rejected-1 h =
     let i : Call = call (request codes1 ReadCard []) [] in
     clash (asked-word i _ (h .asks (holding image0) i refl) (λ e. let z : _≡_ {A = ℕ} 0x6A86 0x9000 = e in omega arith)) refl
+
+-- 19. takes the first of two fields with one tag: a SET_PIN with New_PIN2 twice is 6A86, and no code is another
+pub firstTaker-rejected : Demand2 firstTaker → ⊥
+unfolding run
+firstTaker-rejected h =
+    let setting : Call =
+    ask0 SetPin (fld NewPIN1 (sheet0 .codes .pin1) ∷ fld NewPIN2 (replicate pinSize 8) ∷ fld NewPIN2 (codes1 .pin2) ∷ []) [] in
+    let e : _≡_ {A = ℕ} 0x01 0x6A = ap (λ z. getD (z .response) 0 0) (by-manual h [] setting) in
+    absurd (omega arith)

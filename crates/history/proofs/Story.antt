@@ -5,7 +5,7 @@ use mathlib.Core.List.{List, [], _∷_, _++_}
 use mathlib.Core.Bool.{true}
 use lib.ListN.{length, replicate}
 use Rattle.wire.specs.Wire.{be2, be4, joined, part, put, room, fit, placed, alike, allZero}
-use Rattle.fields.specs.Fields.{Tagged, fld, written, each, tlv, headOf, wellFormed, restFrom, runN, stepAt, fieldAt, viewOf, has, val, holds}
+use Rattle.fields.specs.Fields.{Tagged, fld, written, each, tlv, headOf, wellFormed, restFrom, runN, stepAt, fieldAt, viewOf, has, val, holds, twice}
 use Rattle.card.specs.declared.Codes.{Codes}
 use Rattle.card.specs.declared.Card.{Card}
 use Rattle.card.specs.Layout.{pinSize, cidSize, cvcSize, signatureSize, imageRoom}
@@ -29,7 +29,7 @@ use Rattle.history.proofs.Images.{model}
 -- a call as it runs: to unfold this is to unfold all that a call computes with
 unfoldable pub run : AnyCard → State → Call → Settled
 unfolding settled settledOf lent said judgedBy sentIn viewOf answered done roomy askedFor askedOf asked eachAsked accepted lcOf insOf plain allowed
-    shaped wellFormed holds has val restFrom runN stepAt fieldAt written each joined tlv headOf part put room fit placed alike allZero fresh keyOf
+    shaped wellFormed holds has val twice restFrom runN stepAt fieldAt written each joined tlv headOf part put room fit placed alike allZero fresh keyOf
     blockOf lastOf curveName hashQuestions encode encCodes encFront encHeld encFace encFixed encFlags encWallet encKey encCounters encBlock
     encIssuer encLast decode isCard okFace okFront okHeld okFlags okRanges okState okKey keySize okBlock okIssuer okLast
 run f m i = f .taps .settle m i

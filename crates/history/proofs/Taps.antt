@@ -17,7 +17,7 @@ use Rattle.manual.specs.Tags.{CVC}
 use Rattle.manual.specs.declared.Verdict.{Verdict}
 use Rattle.manual.specs.declared.Verdict.the-variants.{Stop}
 use Rattle.manual.specs.Request.{command, listed, insOf}
-use Rattle.manual.specs.Row.{Matched, Question, shaped, Row, Rule, gateOf, allowed, asksCvc, rules, passed}
+use Rattle.manual.specs.Row.{Matched, Question, shaped, Row, Rule, gateOf, single, allowed, asksCvc, rules, passed}
 use Rattle.manual.specs.Commands.{row}
 use Rattle.manual.specs.Settle.{sentIn, judgedBy, judged, Said, silent, refused, done, answered, saidBy, said, questionsOf}
 use Rattle.story.specs.Sums.{bodyOf, lastWord, toldIn, isDone, accepted}
@@ -137,6 +137,7 @@ by-rules P b (r ∷ rs) g x no-way yes-way =
 
 -- the checks that a proof speaks of, by name: a new check moves only the places here
 pub record Passed (r : Row) (m : Matched) (f : Face) (v : View) : Type 0 where
+  pub once : single (r .reads) v ≡ true
   pub pin1 : m .pin1 ≡ true
   pub awake : (r .needs .asleep || eqb (f .front .flags .active) 1) ≡ true
   pub allows : allowed (r .needs) (f .front .wallet .status) ≡ true
@@ -153,9 +154,11 @@ module _ (r : Row) (m : Matched) (f : Face) (q : List ℕ) where
 
   pub named : Every (checksOf r m f q) → Passed r m f (sentIn q)
   named h =
-      let g = h .1 .1 .1 .1 .1 .1 in
+      let s = h .1 .1 .1 .1 .1 .1 in
+      let g = s .1 in
       let o = g .1 .1 .1 .1 in
       record {
+        once = s .0;
         pin1 = g .0;
         awake = g .1 .1 .0;
         allows = g .1 .1 .1 .0;

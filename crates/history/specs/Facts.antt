@@ -1,4 +1,5 @@
--- What the further theorems speak of: a card unchanged, the first check to fail, what a SIGN costs, a note that is too old. Assumes nothing.
+-- What the further theorems speak of: a card unchanged, the first check to fail, a field that stands twice, what a SIGN costs, a note that is too old.
+-- Assumes nothing.
 use Prim.Native.Nat.{ℕ, _+_, _*_, _≤_, _<_}
 use mathlib.Core.Path.{_≡_}
 use mathlib.Core.List.{List, [], _∷_, _++_}
@@ -6,7 +7,7 @@ use lib.ListN.{take, drop}
 use mathlib.Core.Bool.{Bool, true, false, cond, not, _&&_, _||_}
 use lib.Dec.{leb, eqb}
 use Rattle.wire.specs.Wire.{Bytes}
-use Rattle.fields.specs.Fields.{wellFormed}
+use Rattle.fields.specs.Fields.{View, restFrom, copies, has, val, wellFormed}
 use Rattle.card.specs.declared.Face.{Face}
 use Rattle.card.specs.declared.Card.{Card}
 use Rattle.card.specs.Layout.{mostHashes}
@@ -20,7 +21,7 @@ use Rattle.manual.specs.Row.{Matched, Question, shaped, Row, Rule, rules}
 use Rattle.manual.specs.Commands.{row}
 use Rattle.manual.specs.Storage.{guarded, sentCounter}
 use Rattle.manual.specs.Settle.{State, Call, sentIn, matched}
-use Rattle.story.specs.Sums.{isDone, accepted, ins}
+use Rattle.story.specs.Sums.{History, isDone, accepted, ins}
 use Rattle.story.specs.Buffers.{questions, response}
 use Rattle.history.specs.Demands.{AnyCard, settleStop, checkWord, isRefusal, imageBy}
 
@@ -76,6 +77,41 @@ pub record SaidNo (s : State) (i : Call) : Type 0 where
 pub data Alike (x y : ℕ) : Type 0 where
   alike : y ≡ x → Alike x y
   thirteen : x ≡ 0 → y ≡ 13 → Alike x y
+
+-- A FIELD THAT STANDS TWICE. Whether a tag is one of a list; and that each tag of the command's entry stands at most once in the request
+abbrev pub isOf : ℕ → List ℕ → Bool
+isOf t [] = false
+isOf t (u ∷ us) = eqb u t || isOf t us
+
+abbrev pub OnceEach : List ℕ → Type 0
+OnceEach q = (t : ℕ) → isOf t (row (command q) .reads) ≡ true → copies t (restFrom (payload q) 0) ≤ 1
+
+-- in every request of a history that was accepted
+abbrev pub AllOnce : History → Type 0
+AllOnce [] = Unit {0}
+AllOnce (t ∷ h) = (accepted (t .response) ≡ true → OnceEach (t .request)) × AllOnce h
+
+-- WHAT A COMMAND READS. Two views agree on a tag, on absence and value; and on each tag of a list
+abbrev pub SameField : ℕ → View → View → Type 0
+SameField t v w = (has t v ≡ has t w) × (val t v ≡ val t w)
+
+abbrev pub SameOn : List ℕ → View → View → Type 0
+SameOn [] v w = Unit {0}
+SameOn (t ∷ ts) v w = SameField t v w × SameOn ts v w
+
+-- the call with another request
+abbrev pub sending : List ℕ → Call → Call
+sending q i = record { request = q; draw = i .draw; answers = i .answers; buffers = i .buffers }
+
+abbrev pub PassesFive : State → Call → Type 0
+PassesFive s i = (n : ℕ) → n ≤ 5 → checkHolds n (checksAt s i) ≡ true
+
+-- a request beside that of the call: of the same command, both past checks 1 to 5, and the same on each tag of the command's entry
+pub record Beside (s : State) (i : Call) (q : List ℕ) : Type 0 where
+  pub same : command q ≡ command (i .request)
+  pub first : PassesFive s i
+  pub second : PassesFive s (sending q i)
+  pub fields : SameOn (row (command (i .request)) .reads) (sentIn (i .request)) (sentIn q)
 
 -- what n new hashes, at most ten, cost a card: one signature, and n hashes on the count
 pub record Cost (c c′ : Card) (n : ℕ) : Type 0 where

@@ -119,12 +119,13 @@ forgetter = outside (record { verdict = honest .verdict; asks = honest .asks; sa
 abbrev pub but : Command → Row → Command → Row
 but k r j = cond (eqb (code j) (code k)) r (row j)
 
--- a row, but for one column of four
+-- a row, but for one column of five
 abbrev pub withColumns :
-    (Matched → Face → View → Bool) → (Face → View → List ℕ → List Question) → (Face → View → List ℕ → Face)
+    List ℕ → (Matched → Face → View → Bool) → (Face → View → List ℕ → List Question) → (Face → View → List ℕ → Face)
     → (Face → View → List ℕ → List ℕ → List Tagged) → Row → Row
-withColumns conditions questions next fieldsOut r =
+withColumns reads conditions questions next fieldsOut r =
     record {
+      reads = reads;
       needs = r .needs;
       pin2 = r .pin2;
       fields = r .fields;
@@ -137,17 +138,20 @@ withColumns conditions questions next fieldsOut r =
       more = r .more;
     }
 
+abbrev pub withReads : List ℕ → Row → Row
+withReads ts r = withColumns ts (r .conditions) (r .questions) (r .next) (r .fieldsOut) r
+
 abbrev pub withConditions : (Matched → Face → View → Bool) → Row → Row
-withConditions g r = withColumns g (r .questions) (r .next) (r .fieldsOut) r
+withConditions g r = withColumns (r .reads) g (r .questions) (r .next) (r .fieldsOut) r
 
 abbrev pub withQuestions : (Face → View → List ℕ → List Question) → Row → Row
-withQuestions g r = withColumns (r .conditions) g (r .next) (r .fieldsOut) r
+withQuestions g r = withColumns (r .reads) (r .conditions) g (r .next) (r .fieldsOut) r
 
 abbrev pub withNext : (Face → View → List ℕ → Face) → Row → Row
-withNext g r = withColumns (r .conditions) (r .questions) g (r .fieldsOut) r
+withNext g r = withColumns (r .reads) (r .conditions) (r .questions) g (r .fieldsOut) r
 
 abbrev pub withFieldsOut : (Face → View → List ℕ → List ℕ → List Tagged) → Row → Row
-withFieldsOut g r = withColumns (r .conditions) (r .questions) (r .next) g r
+withFieldsOut g r = withColumns (r .reads) (r .conditions) (r .questions) (r .next) g r
 
 -- 4. HONOURS THE FIRST SIGN AND AFTERWARDS REPEATS ITS SIGNATURES (demands 2 and 3): it asks, and counts, and answers the old ones
 abbrev pub keptLast : Face → Face → Face
@@ -268,3 +272,7 @@ unreasonedAsk x = posedBy (unreasoned (x .result)) (x .questions)
 
 abbrev pub unreasonedSettle : Settled → Settled
 unreasonedSettle x = settledBy (unreasoned (x .result)) (x .response) (x .next)
+
+-- 19. TAKES THE FIRST of two fields with one tag (demand 2), as the card did until it refused both
+abbrev pub firstTaker : AnyCard
+firstTaker = outside (byRows (λ k. withReads [] (row k)))

@@ -9,6 +9,7 @@ use Rattle.fields.specs.Fields.{View, has, val, Tagged, fld}
 use Rattle.card.specs.declared.Face.{Face}
 use Rattle.card.specs.Layout.{signatureSize, top16}
 use Rattle.card.specs.Values.{u16, checkedOnce, validatedOnce, keyOf, withCounters}
+use Rattle.manual.specs.Tags.{CID, PIN1, PIN2}
 use Rattle.manual.specs.Tags.{CardSignature, PublicKeyChallenge, PublicKeySalt, Challenge, Salt, CardValidationCounter, Signature, CheckWalletCounter}
 use Rattle.manual.specs.Row.{Question, question, Row, stays}
 
@@ -64,6 +65,7 @@ checkedFields f v d a = fld Salt (salt d) ∷ fld Signature (signature1 a) ∷ c
 abbrev pub checkWallet : Row
 checkWallet =
     record {
+      reads = PIN1 ∷ CID ∷ Challenge ∷ PublicKeyChallenge ∷ [];
       needs = record { cid = true; asleep = false; empty = false; loaded = true; purged = false; cvc = false };
       pin2 = λ v. false;
       fields = λ f v. checkFields v;
@@ -80,6 +82,7 @@ checkWallet =
 abbrev pub verifyCard : Row
 verifyCard =
     record {
+      reads = PIN1 ∷ CID ∷ Challenge ∷ [];
       needs = record { cid = true; asleep = false; empty = true; loaded = true; purged = true; cvc = false };
       pin2 = λ v. false;
       fields = λ f v. challenged v;
@@ -96,6 +99,7 @@ verifyCard =
 abbrev pub validateCard : Row
 validateCard =
     record {
+      reads = PIN1 ∷ CID ∷ PIN2 ∷ [];
       needs = record { cid = true; asleep = false; empty = true; loaded = true; purged = false; cvc = false };
       pin2 = λ v. true;
       fields = λ f v. true;

@@ -5,7 +5,8 @@ use mathlib.Core.List.{List, [], _∷_, _++_}
 use mathlib.Core.Bool.{true, false}
 use lib.ListN.{length, take, replicate}
 use Rattle.wire.specs.Wire.{part, put, fit, room, joined, alike, allZero, be2, be4}
-use Rattle.fields.specs.Fields.{ended, one, restFrom, runN, stepAt, fieldAt, wellFormed, viewOf, has, val, holds, Tagged, fld, headOf, tlv, each, written}
+use Rattle.fields.specs.Fields.{ended, one, restFrom, runN, stepAt, fieldAt, wellFormed, viewOf, has, val, holds, twice}
+use Rattle.fields.specs.Fields.{Tagged, fld, headOf, tlv, each, written}
 use Rattle.fields.specs.Drill.{item}
 use Rattle.card.specs.declared.Flags.{Flags}
 use Rattle.card.specs.declared.Codes.{Codes}
@@ -117,7 +118,7 @@ pub drill :
     × (five 5 4294967290 0 .result .word ≡ 0x9000) × (next (five 5 4294967290 0) .face .front .wallet .signed ≡ 4294967295)
     -- (12) user counters at 4,294,967,295 after a SIGN: 0
     × (next (five 5 0 4294967295) .face .front .counters .user ≡ 0) × (next (five 5 0 4294967295) .face .front .counters .protected ≡ 0)
-unfolding restFrom runN stepAt fieldAt wellFormed viewOf sentIn judgedBy has val holds part alike written each joined tlv headOf put fit room blockOf lcOf
+unfolding restFrom runN stepAt fieldAt wellFormed viewOf sentIn judgedBy has val holds twice part alike written each joined tlv headOf put fit room blockOf lcOf
     insOf plain allowed said answered done shaped hashQuestions settled settledOf lent roomy encode encCodes encFront encHeld encFace encFixed encFlags
     encWallet encKey encCounters encBlock encIssuer encLast decode isCard okFace okFront okHeld okFlags okRanges okState okKey keySize okBlock okIssuer
     okLast allZero

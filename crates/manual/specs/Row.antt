@@ -5,7 +5,7 @@ use mathlib.Core.Bool.{Bool, true, cond, not, _&&_, _||_}
 use lib.ListN.{length, getD, take, drop}
 use lib.Dec.{leb, eqb}
 use Rattle.wire.specs.Wire.{be1, be2, joined}
-use Rattle.fields.specs.Fields.{View, holds, Tagged}
+use Rattle.fields.specs.Fields.{View, holds, twice, Tagged}
 use Rattle.card.specs.declared.Face.{Face}
 use Rattle.card.specs.declared.Codes.{Codes}
 use Rattle.card.specs.Layout.{keyRoom, keyShort, signatureSize}
@@ -81,6 +81,7 @@ pub record Matched : Type 0 where
 
 -- A COMMAND. f is the face of the card, v the view of the payload, d the draw, a the answers; no part of it sees the codes
 pub record Row : Type 0 where
+  pub reads : List ℕ  -- check 5: the tags of its entry, none of which may stand twice
   pub needs : Needs  -- checks 7 to 10
   pub pin2 : View → Bool  -- check 10, of v
   pub fields : Face → View → Bool  -- check 11, of f and v
@@ -123,12 +124,18 @@ headRules q =
     ∷ rule 3 (listed (insOf (getD q 1 0))) swInsNotSupported
     ∷ []
 
--- checks 4 and 5: its parameters, and whether its payload is well formed. For every row and face they are the same
+-- no tag of the list stands twice, whatever the card makes of its value
+abbrev pub single : List ℕ → View → Bool
+single [] v = true
+single (t ∷ ts) v = not (twice t v) && single ts v
+
+-- checks 4 and 5: its parameters; its payload is well formed, and has no tag of the command's entry twice. For every face they are the same
 abbrev pub formRules : Row → Face → Bool → View → List ℕ → List Rule
 formRules r f formed v q =
     rule 4 (plain (getD q 3 0)) swNeedEncryption
     ∷ rule 4 (eqb (getD q 2 0) 0 && eqb (getD q 3 0) 0) swInvalidParams
     ∷ rule 5 formed swInvalidParams
+    ∷ rule 5 (single (r .reads) v) swInvalidParams
     ∷ []
 
 -- checks 6 to 9, of the view v of the payload

@@ -11,6 +11,7 @@ use Rattle.card.specs.declared.Block.{Block}
 use Rattle.card.specs.declared.Counters.{Counters}
 use Rattle.card.specs.Layout.{dataRoom, signatureSize}
 use Rattle.card.specs.Values.{heldBlock, heldIssuer, blockOf, withUser, withProtected, withCounters, withIssuer}
+use Rattle.manual.specs.Tags.{CID, PIN1, PIN2}
 use Rattle.manual.specs.Tags.{Mode, UserData, UserProtectedData, UserCounter, UserProtectedCounter, IssuerData, IssuerDataSignature, IssuerDataCounter}
 use Rattle.manual.specs.Row.{question, Row, stays}
 
@@ -22,6 +23,7 @@ heldField t d = cond (eqb (length d) 0) [] (fld t d ∷ [])
 abbrev pub readUserData : Row
 readUserData =
     record {
+      reads = PIN1 ∷ CID ∷ [];
       needs = record { cid = true; asleep = false; empty = true; loaded = true; purged = true; cvc = false };
       pin2 = λ v. false;
       fields = λ f v. true;
@@ -78,6 +80,7 @@ storedFace f v =
 abbrev pub writeUserData : Row
 writeUserData =
     record {
+      reads = PIN1 ∷ CID ∷ PIN2 ∷ UserData ∷ UserProtectedData ∷ UserCounter ∷ UserProtectedCounter ∷ [];
       needs = record { cid = true; asleep = false; empty = true; loaded = true; purged = false; cvc = false };
       pin2 = λ v. has UserProtectedData v || has UserProtectedCounter v;
       fields = λ f v. userFields v;
@@ -123,6 +126,7 @@ issuerFace f v = withIssuer (heldIssuer (val IssuerData v) (val IssuerDataSignat
 abbrev pub writeIssuerData : Row
 writeIssuerData =
     record {
+      reads = PIN1 ∷ CID ∷ Mode ∷ IssuerData ∷ IssuerDataSignature ∷ IssuerDataCounter ∷ [];
       needs = record { cid = true; asleep = false; empty = true; loaded = true; purged = false; cvc = false };
       pin2 = λ v. false;
       fields = issuerFields;
@@ -149,6 +153,7 @@ counterField f = cond (guarded f) (fld IssuerDataCounter (be4 (f .held .issuer .
 abbrev pub readIssuerData : Row
 readIssuerData =
     record {
+      reads = PIN1 ∷ CID ∷ Mode ∷ [];
       needs = record { cid = true; asleep = true; empty = true; loaded = true; purged = true; cvc = false };
       pin2 = λ v. false;
       fields = λ f v. modeOk v;

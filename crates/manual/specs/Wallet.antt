@@ -11,7 +11,7 @@ use Rattle.card.specs.declared.Codes.{Codes}
 use Rattle.card.specs.Layout.{pinSize, mostHashes, top16, top32}
 use Rattle.card.specs.Values.{u16, created, spent, purged, risen, heldKey, heldLast, keyOf, lastOf, withWallet, withKey, withCounters, withLast}
 use Rattle.manual.specs.Words.{hashSize}
-use Rattle.manual.specs.Tags.{Status, CurveID, NewPIN1, NewPIN2, IsActivated}
+use Rattle.manual.specs.Tags.{CID, Status, CurveID, PIN1, PIN2, NewPIN1, NewPIN2, CVC, IsActivated}
 use Rattle.manual.specs.Tags.{TransactionHash, TransactionHashSize, WalletPublicKey, Signature, Remaining, SignedHashes}
 use Rattle.manual.specs.declared.Signing.{Signing}
 use Rattle.manual.specs.declared.Signing.the-variants.{New, Again}
@@ -43,6 +43,7 @@ readFields f = statusField f ∷ cond (isActive f) (activeFields f) (fld IsActiv
 abbrev pub readCard : Row
 readCard =
     record {
+      reads = PIN1 ∷ [];
       needs = record { cid = false; asleep = true; empty = true; loaded = true; purged = true; cvc = false };
       pin2 = λ v. false;
       fields = λ f v. true;
@@ -62,6 +63,7 @@ createdFace f a = withKey (heldKey a) (withWallet (created (f .front .fixed .max
 abbrev pub createWallet : Row
 createWallet =
     record {
+      reads = PIN1 ∷ CID ∷ PIN2 ∷ CVC ∷ [];
       needs = record { cid = true; asleep = false; empty = true; loaded = false; purged = false; cvc = true };
       pin2 = λ v. true;
       fields = λ f v. true;
@@ -84,6 +86,7 @@ newCodes v = record { pin1 = pad pinSize (val NewPIN1 v); pin2 = pad pinSize (va
 abbrev pub setPin : Row
 setPin =
     record {
+      reads = PIN1 ∷ CID ∷ PIN2 ∷ CVC ∷ NewPIN1 ∷ NewPIN2 ∷ [];
       needs = record { cid = true; asleep = false; empty = true; loaded = true; purged = false; cvc = true };
       pin2 = λ v. true;
       fields = λ f v. pinFields v;
@@ -130,6 +133,7 @@ signConditions f v = cond (isNew v) (ltb 0 (f .front .wallet .remaining) && leb 
 abbrev pub sign : Row
 sign =
     record {
+      reads = PIN1 ∷ CID ∷ PIN2 ∷ CVC ∷ TransactionHash ∷ TransactionHashSize ∷ [];
       needs = record { cid = true; asleep = false; empty = false; loaded = true; purged = false; cvc = true };
       pin2 = λ v. true;
       fields = λ f v. signFields v;
@@ -150,6 +154,7 @@ purgedFace f = withKey (heldKey []) (withWallet (purged (f .front .flags .reusab
 abbrev pub purgeWallet : Row
 purgeWallet =
     record {
+      reads = PIN1 ∷ CID ∷ PIN2 ∷ [];
       needs = record { cid = true; asleep = false; empty = false; loaded = true; purged = false; cvc = false };
       pin2 = λ v. true;
       fields = λ f v. true;
