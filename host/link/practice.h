@@ -40,7 +40,7 @@ enum {
     PRACTICE_SW_WRONG_LENGTH = 0x6700,      /* the request has not 6 to 1,024 bytes, or does not end where its Lc says */
     PRACTICE_SW_NEED_ENCRYPTION = 0x6982,   /* P2 names an encryption (01, 02), and no session is open */
     PRACTICE_SW_INVALID_STATUS = 0x6985,    /* not in the card's state, or a condition of the command fails */
-    PRACTICE_SW_INVALID_PARAMS = 0x6A86,    /* a code, the CID or a field is absent, wrong or malformed */
+    PRACTICE_SW_INVALID_PARAMS = 0x6A86,    /* a code, the CID or a field is absent, wrong or malformed, or stands twice */
     PRACTICE_SW_INS_NOT_SUPPORTED = 0x6D00, /* no such command */
     PRACTICE_SW_CLA_NOT_SUPPORTED = 0x6E00  /* no such class */
 };
@@ -54,7 +54,7 @@ enum {
     PRACTICE_CHECK_CLASS = 2,      /* the class is not 00 */
     PRACTICE_CHECK_COMMAND = 3,    /* no such command */
     PRACTICE_CHECK_P1_P2 = 4,      /* P1 or P2 is not 00 (P2 01 or 02: no encrypted session is open) */
-    PRACTICE_CHECK_PAYLOAD = 5,    /* the payload does not end at a field's end */
+    PRACTICE_CHECK_PAYLOAD = 5,    /* the payload does not end at a field's end, or a field that the command reads stands twice */
     PRACTICE_CHECK_PIN1 = 6,       /* PIN1 is absent or is not the card's */
     PRACTICE_CHECK_CID = 7,        /* the CID is absent or is not the card's */
     PRACTICE_CHECK_ACTIVATED = 8,  /* the card is not activated */

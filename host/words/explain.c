@@ -83,7 +83,7 @@ void explain_request(FILE *out, message m)
     if (lc.is_read && payload > lc.says)
         payload = lc.says;
     if (payload > 0)
-        page_fields(out, part_of(m, start, payload), start, " (6A86)");
+        page_fields(out, part_of(m, start, payload), start, m);
     if (m.length > start + payload)
         page_value(out, start + payload, "after the payload", VALUE_BYTES, m.bytes + start + payload, m.length - start - payload);
     judge_length(out, m, lc);
@@ -114,7 +114,7 @@ void explain_response(FILE *out, message request, message m)
     size_t end = m.length - STATUS_WORD;
     words_status row = words_status_of((uint16_t)value_number(m.bytes + end, STATUS_WORD), request.bytes, request.length);
     if (end > 0)
-        page_fields(out, part_of(m, 0, end), 0, "");
+        page_fields(out, part_of(m, 0, end), 0, (message){NULL, 0});
     page_part(out, end, "status word", "%04X  %s  %s", row.word, row.name, row.meaning);
     judge_response(out, m, end, row);
 }

@@ -72,16 +72,24 @@ static void print_field(FILE *out, size_t at, const field *one)
         page_wrong(out, at, "the length of %s is %zu, and has to be %s", row.name, one->length, lengths);
 }
 
-void page_fields(FILE *out, message m, size_t at, const char *word)
+/* A response has every tag once, and a request those that its command reads. */
+static int may_repeat(message request, uint8_t tag)
 {
+    return request.length > 0 && !words_reads(request.bytes, request.length, tag);
+}
+
+void page_fields(FILE *out, message m, size_t at, message request)
+{
+    const char *word = request.length > 0 ? " (6A86)" : "";
     field_walk walk = {m.bytes, m.length, 0};
     field one;
     field_step step;
     uint8_t seen[256] = {0};
     while ((step = field_next(&walk, &one)) == FIELD_FOUND) {
         print_field(out, at + one.at, &one);
-        if (seen[one.tag]++)
-            page_wrong(out, at + one.at, "tag %02X stands here again; the first one counts", one.tag);
+        if (seen[one.tag] && !may_repeat(request, one.tag))
+            page_wrong(out, at + one.at, "tag %02X stands here again, and may not%s", one.tag, word);
+        seen[one.tag] = 1;
     }
     if (step == FIELD_TORN)
         page_wrong(out, at + one.at, "the bytes end inside field %02X, %s%s", one.tag, words_field_of(one.tag).name, word);

@@ -14,7 +14,7 @@ void page_value(FILE *out, size_t at, const char *name, value_form form, const u
 
 void page_wrong(FILE *out, size_t at, const char *format, ...) __attribute__((format(printf, 3, 4)));
 
-/* The fields of these bytes, which start at this place of the message. The word stands after the complaint that they end inside one. */
-void page_fields(FILE *out, message m, size_t at, const char *word);
+/* The fields of these bytes, which start at this place of the message: of this request, or, where it is empty, of a response. */
+void page_fields(FILE *out, message m, size_t at, message request);
 
 #endif

@@ -1,6 +1,8 @@
 /* The tables of names. */
 #include "words.h"
 
+#include <string.h>
+
 #include "practice.h"
 
 #define COUNT(table) (sizeof(table) / sizeof *(table))
@@ -8,13 +10,24 @@
 
 enum { SET_PIN = 0xFA };
 
-static const struct {
+typedef struct {
     uint8_t ins;
-    const char *name;
-} commands[] = {
-    {0xF2, "READ_CARD"},    {0xF8, "CREATE_WALLET"}, {0xF9, "CHECK_WALLET"},   {0xFA, "SET_PIN"},
-    {0xFB, "SIGN"},         {0xF3, "VERIFY_CARD"},   {0xF4, "VALIDATE_CARD"},  {0xFC, "PURGE_WALLET"},
-    {0xE1, "READ_USER_DATA"}, {0xE0, "WRITE_USER_DATA"}, {0xF6, "WRITE_ISSUER_DATA"}, {0xF7, "READ_ISSUER_DATA"},
+    const char *name, *reads; /* the tags that it reads, one after the other */
+} command;
+
+static const command commands[] = {
+    {0xF2, "READ_CARD", "\x10"},
+    {0xF8, "CREATE_WALLET", "\x10\x01\x11\x19"},
+    {0xF9, "CHECK_WALLET", "\x10\x01\x16\x14"},
+    {0xFA, "SET_PIN", "\x10\x01\x11\x19\x12\x13"},
+    {0xFB, "SIGN", "\x10\x01\x11\x19\x50\x51"},
+    {0xF3, "VERIFY_CARD", "\x10\x01\x16"},
+    {0xF4, "VALIDATE_CARD", "\x10\x01\x11"},
+    {0xFC, "PURGE_WALLET", "\x10\x01\x11"},
+    {0xE1, "READ_USER_DATA", "\x10\x01"},
+    {0xE0, "WRITE_USER_DATA", "\x10\x01\x11\x2A\x2B\x2C\x2D"},
+    {0xF6, "WRITE_ISSUER_DATA", "\x10\x01\x23\x32\x33\x35"},
+    {0xF7, "READ_ISSUER_DATA", "\x10\x01\x23"},
 };
 
 /* Of requests and of responses: no tag has two meanings. */
@@ -60,7 +73,7 @@ static const words_status statuses[] = {
     {PRACTICE_SW_WRONG_LENGTH, "SW_WRONG_LENGTH", "refused: the length of the request, or its Lc"},
     {PRACTICE_SW_NEED_ENCRYPTION, "SW_NEED_ENCRYPTION", "refused: no encrypted session is open"},
     {PRACTICE_SW_INVALID_STATUS, "SW_INVALID_STATUS", "refused: not in the card's state, or a condition of the command fails"},
-    {PRACTICE_SW_INVALID_PARAMS, "SW_INVALID_PARAMS", "refused: a code, the CID or a field is absent, wrong or malformed"},
+    {PRACTICE_SW_INVALID_PARAMS, "SW_INVALID_PARAMS", "refused: a code, the CID or a field is absent, wrong or malformed, or stands twice"},
     {PRACTICE_SW_INS_NOT_SUPPORTED, "SW_INS_NOT_SUPPORTED", "refused: no such command"},
     {PRACTICE_SW_CLA_NOT_SUPPORTED, "SW_CLA_NOT_SUPPORTED", "refused: no such class"},
 };
@@ -70,7 +83,7 @@ static const char *const reasons[] = {
     [PRACTICE_CHECK_CLASS] = "the class is not 00",
     [PRACTICE_CHECK_COMMAND] = "no such command",
     [PRACTICE_CHECK_P1_P2] = "P1 or P2 is not 00 (P2 01 or 02: no encrypted session is open)",
-    [PRACTICE_CHECK_PAYLOAD] = "the payload does not end at a field's end",
+    [PRACTICE_CHECK_PAYLOAD] = "the payload does not end at a field's end, or a field that the command reads stands twice",
     [PRACTICE_CHECK_PIN1] = "PIN1 is absent or is not the card's",
     [PRACTICE_CHECK_CID] = "the CID is absent or is not the card's",
     [PRACTICE_CHECK_ACTIVATED] = "the card is not activated",
@@ -81,12 +94,22 @@ static const char *const reasons[] = {
     [PRACTICE_CHECK_ISSUER] = "the issuer did not sign this",
 };
 
-const char *words_command(const uint8_t *request, size_t length)
+static command command_of(const uint8_t *request, size_t length)
 {
     for (size_t at = 0; length >= 2 && at < COUNT(commands); at++)
         if (commands[at].ins == request[1])
-            return commands[at].name;
-    return WORDS_UNKNOWN;
+            return commands[at];
+    return (command){0, WORDS_UNKNOWN, ""};
+}
+
+const char *words_command(const uint8_t *request, size_t length)
+{
+    return command_of(request, length).name;
+}
+
+int words_reads(const uint8_t *request, size_t length, uint8_t tag)
+{
+    return tag != 0 && strchr(command_of(request, length).reads, tag) != NULL;
 }
 
 words_field words_field_of(uint8_t tag)

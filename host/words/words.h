@@ -13,6 +13,9 @@
 /* The command of a request, or "?" where it has none that is known. */
 const char *words_command(const uint8_t *request, size_t length);
 
+/* Whether the command of this request reads this tag, which may then not stand twice. */
+int words_reads(const uint8_t *request, size_t length, uint8_t tag);
+
 /* A field by its tag. Its length is right where it is least, or more than that by whole steps, up to most. */
 typedef struct {
     uint8_t tag;

@@ -67,7 +67,7 @@ const REASONS: [(u8, &str); 13] = [
     (2, "the class is not 00"),
     (3, "no such command"),
     (4, "P1 or P2 is not 00 (P2 01 or 02: no encrypted session is open)"),
-    (5, "the payload does not end at a field's end"),
+    (5, "the payload does not end at a field's end, or a field that the command reads stands twice"),
     (6, "PIN1 is absent or is not the card's"),
     (7, "the CID is absent or is not the card's"),
     (8, "the card is not activated"),
