@@ -12,7 +12,7 @@ from twin.image import SIGNATURE_LENGTH, TOP_32, Card
 from twin.request import Tag, big_endian, field
 
 LONGEST = 1024
-CODES = (Tag.PIN1, Tag.CID, Tag.PIN2, Tag.CVC)
+CODES = (Tag.CID, Tag.PIN1, Tag.PIN2, Tag.CVC)
 # How often a command is drawn from those that the card's status allows. A purge ends much, so it is rare.
 WEIGHTS = {ins: 4 for ins in NAMES} | {SIGN: 12, CHECK_WALLET: 6, VALIDATE_CARD: 6, WRITE_ISSUER_DATA: 6, PURGE_WALLET: 1}
 

@@ -11,6 +11,7 @@ DATA_ROOM = 512
 MOST_HASHES = 10
 HASH_LENGTH = 32
 ACCESS = (Tag.PIN1, Tag.CID)
+CODES = (Tag.PIN2, Tag.CVC)
 
 
 class Done(NamedTuple):
@@ -67,7 +68,7 @@ class ReadCard(Command):
 
 
 class CreateWallet(Command):
-    reads = (*ACCESS, Tag.PIN2, Tag.CVC)
+    reads = (*ACCESS, *CODES)
     allowed_in = (EMPTY,)
     asks_pin2 = True
     asks_cvc = True
@@ -117,7 +118,7 @@ class CheckWallet(Command):
 
 
 class SetPin(Command):
-    reads = (*ACCESS, Tag.PIN2, Tag.CVC, Tag.NEW_PIN1, Tag.NEW_PIN2)
+    reads = (*ACCESS, *CODES, Tag.NEW_PIN1, Tag.NEW_PIN2)
     asks_pin2 = True
     asks_cvc = True
 
@@ -139,7 +140,7 @@ class SetPin(Command):
 
 
 class Sign(Command):
-    reads = (*ACCESS, Tag.PIN2, Tag.CVC, Tag.HASH_ARRAY, Tag.HASH_SIZE)
+    reads = (*ACCESS, *CODES, Tag.HASH_ARRAY, Tag.HASH_SIZE)
     allowed_in = (LOADED,)
     asks_pin2 = True
     asks_cvc = True
@@ -276,7 +277,7 @@ def mode_fits(tap: Tap) -> bool:
 
 
 class WriteIssuerData(Command):
-    reads = (*ACCESS, Tag.MODE, Tag.ISSUER_DATA, Tag.ISSUER_DATA_SIGNATURE, Tag.ISSUER_DATA_COUNTER)
+    reads = (*ACCESS, Tag.ISSUER_DATA, Tag.ISSUER_DATA_COUNTER, Tag.ISSUER_DATA_SIGNATURE, Tag.MODE)
 
     def fields_fit(self, tap):
         return (
