@@ -8,6 +8,9 @@ ghost use mathlib.Core.Path.{_≡_};
 ghost use Rattle.fields.specs.Fields.{twice};
 ghost use Rattle.sent.specs.Sent.{viewBy};
 ghost use Rattle.manual.specs.Row.{single};
+ghost use Rattle.manual.specs.Wallet.{setPin, sign};
+ghost use Rattle.manual.specs.Checking.{checkWallet};
+ghost use Rattle.manual.specs.Storage.{writeUserData, writeIssuerData};
 ghost use Rattle.manual.specs.Commands.{row};
 
 fn is_twice(tag: u8, p: &[u8], places: &Places) -> bool
@@ -33,6 +36,76 @@ fn all_single(tags: &[u8], p: &[u8], places: &Places) -> bool
     true
 }
 
+// The longer lists.
+fn check_wallet(p: &[u8], places: &Places) -> bool
+    ensures { λ r. ⌜ r ≡ single (checkWallet .reads) (viewBy (now (p .entry)) (now (places .entry))) ⌝ }
+{
+    let tags = [
+        tag::PIN1,
+        tag::CID,
+        tag::CHALLENGE,
+        tag::PUBLIC_KEY_CHALLENGE,
+    ];
+    all_single(&tags, p, places)
+}
+
+fn set_pin(p: &[u8], places: &Places) -> bool
+    ensures { λ r. ⌜ r ≡ single (setPin .reads) (viewBy (now (p .entry)) (now (places .entry))) ⌝ }
+{
+    let tags = [
+        tag::PIN1,
+        tag::CID,
+        tag::PIN2,
+        tag::CVC,
+        tag::NEW_PIN1,
+        tag::NEW_PIN2,
+    ];
+    all_single(&tags, p, places)
+}
+
+fn sign(p: &[u8], places: &Places) -> bool
+    ensures { λ r. ⌜ r ≡ single (sign .reads) (viewBy (now (p .entry)) (now (places .entry))) ⌝ }
+{
+    let tags = [
+        tag::PIN1,
+        tag::CID,
+        tag::PIN2,
+        tag::CVC, // which SIGN's entry names too
+        tag::TRANSACTION_HASH,
+        tag::TRANSACTION_HASH_SIZE,
+    ];
+    all_single(&tags, p, places)
+}
+
+fn write_user_data(p: &[u8], places: &Places) -> bool
+    ensures { λ r. ⌜ r ≡ single (writeUserData .reads) (viewBy (now (p .entry)) (now (places .entry))) ⌝ }
+{
+    let tags = [
+        tag::PIN1,
+        tag::CID,
+        tag::PIN2,
+        tag::USER_DATA,
+        tag::USER_PROTECTED_DATA,
+        tag::USER_COUNTER,
+        tag::USER_PROTECTED_COUNTER,
+    ];
+    all_single(&tags, p, places)
+}
+
+fn write_issuer_data(p: &[u8], places: &Places) -> bool
+    ensures { λ r. ⌜ r ≡ single (writeIssuerData .reads) (viewBy (now (p .entry)) (now (places .entry))) ⌝ }
+{
+    let tags = [
+        tag::PIN1,
+        tag::CID,
+        tag::MODE,
+        tag::ISSUER_DATA,
+        tag::ISSUER_DATA_SIGNATURE,
+        tag::ISSUER_DATA_COUNTER,
+    ];
+    all_single(&tags, p, places)
+}
+
 // By the command's list.
 fn listed(cmd: Command, p: &[u8], places: &Places) -> bool
     ensures { λ r. ⌜ r ≡ single (row cmd .reads) (viewBy (now (p .entry)) (now (places .entry))) ⌝ }
@@ -42,69 +115,15 @@ fn listed(cmd: Command, p: &[u8], places: &Places) -> bool
         Command::CreateWallet => {
             all_single(&[tag::PIN1, tag::CID, tag::PIN2, tag::CVC], p, places)
         }
-        Command::CheckWallet => all_single(
-            &[
-                tag::PIN1,
-                tag::CID,
-                tag::CHALLENGE,
-                tag::PUBLIC_KEY_CHALLENGE,
-            ],
-            p,
-            places,
-        ),
-        Command::SetPin => all_single(
-            &[
-                tag::PIN1,
-                tag::CID,
-                tag::PIN2,
-                tag::CVC,
-                tag::NEW_PIN1,
-                tag::NEW_PIN2,
-            ],
-            p,
-            places,
-        ),
-        Command::Sign => all_single(
-            &[
-                tag::PIN1,
-                tag::CID,
-                tag::PIN2,
-                tag::CVC, // which SIGN's entry names too
-                tag::TRANSACTION_HASH,
-                tag::TRANSACTION_HASH_SIZE,
-            ],
-            p,
-            places,
-        ),
+        Command::CheckWallet => check_wallet(p, places),
+        Command::SetPin => set_pin(p, places),
+        Command::Sign => sign(p, places),
         Command::VerifyCard => all_single(&[tag::PIN1, tag::CID, tag::CHALLENGE], p, places),
         Command::ValidateCard => all_single(&[tag::PIN1, tag::CID, tag::PIN2], p, places),
         Command::PurgeWallet => all_single(&[tag::PIN1, tag::CID, tag::PIN2], p, places),
         Command::ReadUserData => all_single(&[tag::PIN1, tag::CID], p, places),
-        Command::WriteUserData => all_single(
-            &[
-                tag::PIN1,
-                tag::CID,
-                tag::PIN2,
-                tag::USER_DATA,
-                tag::USER_PROTECTED_DATA,
-                tag::USER_COUNTER,
-                tag::USER_PROTECTED_COUNTER,
-            ],
-            p,
-            places,
-        ),
-        Command::WriteIssuerData => all_single(
-            &[
-                tag::PIN1,
-                tag::CID,
-                tag::MODE,
-                tag::ISSUER_DATA,
-                tag::ISSUER_DATA_SIGNATURE,
-                tag::ISSUER_DATA_COUNTER,
-            ],
-            p,
-            places,
-        ),
+        Command::WriteUserData => write_user_data(p, places),
+        Command::WriteIssuerData => write_issuer_data(p, places),
         Command::ReadIssuerData => all_single(&[tag::PIN1, tag::CID, tag::MODE], p, places),
     }
 }
