@@ -1,7 +1,7 @@
 """Makes crates/images/stdin, images for the program `images`, and crates/images/stdout, what it must print.
 
 Run: python3 tests/images.py (about a minute). tests/README.md tells what the lines mean. Every value of every byte is
-tried, so the whole is 4.3 million calls of is_card.
+tried, so the whole is 5.6 million calls of is_card.
 """
 
 import multiprocessing
@@ -9,7 +9,7 @@ import pathlib
 
 from twin.bench import fresh, loaded, purged, some
 from twin.card import is_card
-from twin.image import ED25519, IMAGE_LENGTH, encode
+from twin.image import ED25519, IMAGE_LENGTH, LOADED, encode
 
 PLACE = pathlib.Path(__file__).resolve().parent.parent / "crates" / "images"
 
@@ -22,6 +22,8 @@ CARDS = (
     fresh(wallet_number=7),
     loaded(remaining=0, last_signatures=some(640, 6)),
 )
+# Signatures and no wallet, be they zeros: a card as soon as there are none, and by no other byte.
+NO_WALLET = fresh(wallet_number=7, last_signatures=bytes(64)), purged(last_signatures=bytes(640))
 OTHER_LENGTHS = (b"", encode(fresh())[:-1], encode(fresh()) + b"\0")
 
 
@@ -58,12 +60,25 @@ def report(image: bytes) -> str:
     return "\n".join(merged(tried(image))) + "\n--\n"
 
 
+def hold_to_hand(reports: list):
+    """What is said of the last signatures, their number and their 640 bytes, worked out by hand."""
+    for card, text in zip(CARDS, reports):
+        if card.status != LOADED:
+            assert text.endswith("\n1788-2428\t00-00\n--\n"), card
+        elif not card.last_signatures:
+            assert text.endswith("\n1788\t00-0A\n1789-2428\t00-00\n--\n"), card
+    for text in reports[len(CARDS) :][: len(NO_WALLET)]:
+        assert text == "0-1787\tnone\n1788\t00-00\n1789-2428\tnone\n--\n", text
+
+
 def main():
     images = [encode(card) for card in CARDS]
     assert all(map(is_card, images))
+    images += [encode(card) for card in NO_WALLET]
     images += OTHER_LENGTHS
     with multiprocessing.Pool(2) as pool:
         reports = pool.map(report, images, chunksize=1)
+    hold_to_hand(reports)
     PLACE.mkdir(parents=True, exist_ok=True)
     (PLACE / "stdin").write_text("".join(image.hex().upper() + "\n" for image in images), newline="\n")
     (PLACE / "stdout").write_text("".join(reports), newline="\n")

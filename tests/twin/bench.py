@@ -84,8 +84,9 @@ FULL = dict(
 
 
 def full(status: int, curve: int = SECP256K1, **values) -> Card:
-    """A card of this status that holds something everywhere."""
-    return in_status(status, curve, **{**FULL, **values})
+    """A card of this status that holds something everywhere, signatures only with a wallet."""
+    signatures = {} if status == LOADED else dict(last_signatures=b"")
+    return in_status(status, curve, **{**FULL, **signatures, **values})
 
 
 # ---------------------------------------------------------------- requests

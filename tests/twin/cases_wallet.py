@@ -106,8 +106,8 @@ def sign_repeat(script):
         ("user counters at their top", loaded(
             user_counter=TOP_32, user_protected_counter=TOP_32, last_signatures=held)),
         ("ed25519", loaded(ED25519, last_signatures=held)),
-        ("Empty with signatures held", fresh(wallet_number=1, last_signatures=held)),
-        ("Purged with signatures held", purged(last_signatures=held)),
+        ("Empty", fresh(wallet_number=1)),
+        ("Purged", purged()),
     )
     for words, card in rows:
         script.case(words, card, REPEAT, REPEAT)

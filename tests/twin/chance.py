@@ -27,6 +27,9 @@ class Chance(random.Random):
     def data_length(self) -> int:
         return self.choice(LENGTHS) if self.often(0.8) else self.randint(0, DATA_ROOM)
 
+    def signatures(self, least: int = 0) -> bytes:
+        return self.randbytes(SIGNATURE_LENGTH * self.near_ends(least, MOST_SIGNATURES))
+
     def public_key(self, curve: int) -> bytes:
         key = self.randbytes(KEY_LENGTH[curve])
         return key if curve == ED25519 else b"\x04" + key[1:]
@@ -67,7 +70,7 @@ def fresh(chance: Chance, curve: int, activated: int) -> Card:
 
 
 def held(chance: Chance, card: Card) -> Card:
-    """The card with counters, data and signatures, each of them possibly nothing."""
+    """The card with counters and data, each of them possibly nothing."""
     issuer_data = chance.randbytes(chance.data_length())
     return card._replace(
         signed_hashes=chance.near_ends(0, TOP_32),
@@ -80,7 +83,6 @@ def held(chance: Chance, card: Card) -> Card:
         issuer_data=issuer_data,
         issuer_data_signature=chance.randbytes(SIGNATURE_LENGTH) if issuer_data else bytes(SIGNATURE_LENGTH),
         issuer_data_counter=chance.near_ends(0, TOP_32),
-        last_signatures=chance.randbytes(SIGNATURE_LENGTH * chance.near_ends(0, MOST_SIGNATURES)),
     )
 
 
@@ -94,6 +96,7 @@ def loaded(chance: Chance, card: Card) -> Card:
         wallet_number=chance.near_ends(1, TOP_16) if card.reusable else 1,
         remaining=chance.near_ends(0, card.max_signatures),
         wallet_public_key=chance.public_key(card.curve),
+        last_signatures=chance.signatures(),
     )
 
 

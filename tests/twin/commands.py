@@ -228,7 +228,7 @@ class PurgeWallet(Command):
 
     def perform(self, tap, answers):
         status = EMPTY if tap.card.reusable else PURGED
-        card = tap.card._replace(status=status, remaining=0, wallet_public_key=b"")
+        card = tap.card._replace(status=status, remaining=0, wallet_public_key=b"", last_signatures=b"")
         return Done(card, field(Tag.STATUS, big_endian(status, 1)))
 
 

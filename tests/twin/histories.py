@@ -4,7 +4,7 @@ from typing import NamedTuple
 
 from twin.chance import Chance, any_card
 from twin.chance_requests import any_request
-from twin.image import IMAGE_LENGTH, Card, decode, encode
+from twin.image import IMAGE_LENGTH, LOADED, Card, decode, encode
 from twin.pair import ROOMS, Pair
 from twin.request import number
 
@@ -49,7 +49,10 @@ def lent_by_chance(chance: Chance, image: bytes) -> Lent:
 
 
 def damaged_image(chance: Chance, image: bytes) -> bytes:
-    """One byte another, mostly among the values before the data, or another length."""
+    """One byte another, mostly among the values before the data, signatures where no wallet made them, or another length."""
+    card = decode(image)
+    if card.status != LOADED and chance.often(0.3):
+        return encode(card._replace(last_signatures=chance.signatures(least=1)))
     if chance.often(0.1):
         return chance.choice((image[:-1], image + b"\0", b"", image[: chance.randrange(IMAGE_LENGTH)]))
     at = chance.randrange(75, 180) if chance.often(0.6) else chance.randrange(IMAGE_LENGTH)
@@ -66,6 +69,8 @@ def tap(pair: Pair, card: Card, image: bytes) -> bytes:
     else:
         answers = answers_by_chance(chance, asked.questions)
     settled = pair.settle(lent.image, request, lent.draw, answers, *lent.rooms[1:])
+    if settled.number == 1:
+        pair.reached.no_card(lent.image)
     if settled.image is None:
         return image
     pair.reached.tapped(request, settled.reason, decode(lent.image), decode(settled.image))
@@ -77,6 +82,7 @@ def histories(pair: Pair):
     left = TAPS_IN_A_JOB
     while left:
         image = encode(any_card(pair.chance))
+        pair.reached.begun()
         for _ in range(min(left, pair.chance.randint(10, 60))):
             image = tap(pair, decode(image), image)
             left -= 1

@@ -113,6 +113,7 @@ def wallet_fits(card: Card) -> bool:
         and card.remaining <= (card.max_signatures if card.status == LOADED else 0)
         and wallet_number_fits(card)
         and not (card.status == PURGED and card.reusable)
+        and (card.status == LOADED or card.last_signatures == b"")
         and (card.activated == 1 or (card.status == EMPTY and card.wallet_number == 0))
     )
 

@@ -1,4 +1,5 @@
-"""Recordings of good lines: what is `same` and what is `other`, answers that do not fit, what is summed, fields that stand twice."""
+"""Recordings of good lines: what is `same` and what is `other`, answers that do not fit, what is summed, cards that change hands, fields
+that stand twice."""
 
 from twin.bench import (
     ACCESS, CHALLENGE, CHECK_WALLET, CID, CONFIRM, CREATE_WALLET, DRAW, OWN_FIELDS, PIN1, PIN2, PURGE_WALLET, READ_CARD,
@@ -6,7 +7,7 @@ from twin.bench import (
     hashes, issuer_data, key, off_by_last, plain, request, sign, some,
 )
 from twin.card import settle
-from twin.image import ED25519, SECP256K1
+from twin.image import ED25519, SECP256K1, decode, encode
 from twin.recorder import Recording
 from twin.script import hexed
 
@@ -260,6 +261,39 @@ def no_signs(book: list):
     recording.tap(sign(2))
 
 
+# ---------------------------------------------------------------- from hand to hand
+
+
+def owners(book: list):
+    """Ten times a purge and a new wallet, the repeat before and after each. One hash, then 1 to 10 and one more: 66 in all."""
+    recording = on_a_wallet(book, "sums: ten owners after the first", max="3")
+    signed = recording.tap(sign(1))
+    for owner in range(1, 11):
+        assert recording.tap(REPEAT) == signed
+        for sent in (PURGE, CREATE):
+            recording.tap(sent)
+            assert recording.tap(REPEAT) == "6985", sent
+        recording.tap(sign(owner))
+        signed = recording.tap(sign(1))
+    assert recording.tap(REPEAT) == signed
+    assert recording.play.last_line() == "1\t66\t2\t66\n"
+
+
+def last_owners_were_given(book: list):
+    """Recorded on a card that kept the signatures over a purge: `other` until the new wallet has signed."""
+    recording = on_a_wallet(book, "other: of a card that gave the last owner's signatures", max="3")
+    recording.tap(sign(3))
+    former = decode(recording.play.image).last_signatures
+    recording.tap(PURGE)
+    recording.tap(CREATE)
+    kept = encode(decode(recording.play.image)._replace(last_signatures=former))
+    before = settle(kept, REPEAT, DRAW, b"").response
+    assert former in before
+    recording.tap(REPEAT, b"", expected=hexed(before))
+    recording.tap(sign(1))
+    recording.tap(REPEAT)
+
+
 # ---------------------------------------------------------------- fields that stand twice
 
 
@@ -304,5 +338,5 @@ def first_was_taken(book: list):
 
 
 GROUPS = (others, others_of_two_bytes, others_of_refusal_4, others_all, empty_answers, answers_not_asked, wrong_answers,
-          unchanged_after_4, signs, repeats, wallets, dead_wallets, refused_signs, used_up, no_signs, hashes_twice, fields_twice,
-          first_was_taken)
+          unchanged_after_4, signs, repeats, wallets, dead_wallets, refused_signs, used_up, no_signs, owners, last_owners_were_given,
+          hashes_twice, fields_twice, first_was_taken)

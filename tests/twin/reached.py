@@ -7,7 +7,7 @@ from twin.bench import (
     CHECK_WALLET, CREATE_WALLET, CURVES, NAMES, ONCE, PURGE_WALLET, READ_CARD, READ_ISSUER_DATA, READ_USER_DATA, SET_PIN, SIGN,
     STATUSES, VALIDATE_CARD, VERIFY_CARD, WRITE_ISSUER_DATA, WRITE_USER_DATA,
 )
-from twin.image import EMPTY, LOADED, PURGED, TOP_16, TOP_32, Card
+from twin.image import EMPTY, IMAGE_LENGTH, LOADED, PURGED, TOP_16, TOP_32, Card, decode, encode, is_card
 from twin.request import fields_of, payload_of, values_of
 
 
@@ -27,6 +27,7 @@ CALLS = {
 }
 NOT_ACTIVATED = 0
 STATES = {NOT_ACTIVATED: "not activated", **STATUSES}
+NO_WALLET = {state: f"no card: signatures and no wallet, {name}" for state, name in STATES.items() if state != LOADED}
 
 # The rows of a request whose second byte is no command, and of one that has no second byte.
 OTHER, NONE = "other INS", "no INS"
@@ -60,17 +61,25 @@ DONE_IN = {
 
 
 class End(NamedTuple):
-    """A place that a command comes to, done (0) or refused by a check: seen where the test holds."""
+    """A place that a command comes to, done (0) or refused by a check: seen where the test holds.
+
+    With `after_purge` only in a history in which a purge has taken signatures.
+    """
 
     name: str
     ins: int
     reason: int
     test: Callable[[Card, Card, bytes], bool]
+    after_purge: bool = False
 
 
 def sent(request: bytes) -> dict:
     """The fields of a request that is well-formed."""
     return fields_of(payload_of(request))
+
+
+def is_repeat(old: Card, new: Card, request: bytes) -> bool:
+    return not {0x50, 0x51} & set(sent(request))
 
 
 ENDS = (
@@ -117,6 +126,11 @@ ENDS = (
         lambda old, new, _: old.user_protected_counter < new.user_protected_counter == TOP_32),
     End("purged, reusable", PURGE_WALLET, 0, lambda old, new, _: new.status == EMPTY),
     End("purged, not reusable", PURGE_WALLET, 0, lambda old, new, _: new.status == PURGED),
+    End("purged with no signatures held", PURGE_WALLET, 0, lambda old, new, _: old.last_signatures == b""),
+    End("purged with ten signatures held", PURGE_WALLET, 0, lambda old, new, _: len(old.last_signatures) == 640),
+    End("the repeat refused after a purge", SIGN, 9, is_repeat, after_purge=True),
+    End("the repeat refused on a new wallet after a purge", SIGN, 12, is_repeat, after_purge=True),
+    End("the repeat on a new wallet after a purge", SIGN, 0, is_repeat, after_purge=True),
     *(End(f"{NAMES[ins]} done by a request of 1,024 bytes", ins, 0, lambda old, new, request: len(request) == 1024)
       for ins in (READ_CARD, SIGN, WRITE_USER_DATA, WRITE_ISSUER_DATA)),
     *(End(f"{NAMES[ins]} refused at 1,025 bytes", ins, 1, lambda old, new, request: len(request) == 1025)
@@ -133,6 +147,10 @@ def row_of(request: bytes):
     return request[1] if request[1] in NAMES else OTHER
 
 
+def state_of(card: Card) -> int:
+    return card.status if card.activated else NOT_ACTIVATED
+
+
 def tags_twice(request: bytes) -> list:
     """The tags that stand twice in a request of a good length; none where it is malformed."""
     return [tag for tag, values in (values_of(payload_of(request)) or {}).items() if len(values) > 1]
@@ -142,7 +160,11 @@ class Reached:
     """How often each thing was reached. Sums of two are made by `update` of `times`."""
 
     def __init__(self):
-        self.times = Counter()
+        self.times, self.purged = Counter(), False
+
+    def begun(self):
+        """A history begins."""
+        self.purged = False
 
     def called(self, call: str, request: bytes, result):
         """Every call of ask and of settle, whatever it came to."""
@@ -158,12 +180,19 @@ class Reached:
         """A tap on a card, done or refused."""
         row = row_of(request)
         if reason == 0:
-            state = before.status if before.activated else NOT_ACTIVATED
-            self.times["done in", row, state, before.curve] += 1
+            self.times["done in", row, state_of(before), before.curve] += 1
         if reason in (0, 5):
             self.stood_twice(row, reason, tags_twice(request))
         for end in ENDS_OF.get((row, reason), ()):
-            self.times["end", end.name] += end.test(before, after, request)
+            self.times["end", end.name] += end.test(before, after, request) and (self.purged or not end.after_purge)
+        if before.last_signatures and not after.last_signatures:  # which only a purge does
+            self.purged = True
+
+    def no_card(self, image: bytes):
+        """A tap on what is no card: counted where signatures without a wallet are all that is wrong."""
+        card = decode(image) if len(image) == IMAGE_LENGTH else None
+        if card and card.last_signatures and encode(card) == image and is_card(encode(card._replace(last_signatures=b""))):
+            self.times["end", NO_WALLET[state_of(card)]] += 1
 
     def stood_twice(self, row, reason: int, tags: list):
         """Done with some tags twice; or refused over one, which is told only where no other stands twice."""
@@ -173,6 +202,7 @@ class Reached:
             self.times["twice", row, *tags] += 1
 
 
+END_NAMES = (*(end.name for end in ENDS), *NO_WALLET.values())
 ENDS_OF = {}
 for one in ENDS:
     ENDS_OF.setdefault((one.ins, one.reason), []).append(one)
@@ -230,7 +260,7 @@ def by_word(times: Counter, name: str, call: Call) -> str:
 
 
 def by_end(times: Counter) -> str:
-    return table(["end of a range", "times"], [[end.name, str(times["end", end.name])] for end in ENDS])
+    return table(["end of a range", "times"], [[name, str(times["end", name])] for name in END_NAMES])
 
 
 def tables(times: Counter) -> str:
@@ -264,7 +294,7 @@ def wanted() -> dict:
     for ins, once in ONCE.items():
         keys |= {("twice", ins, tag): f"{NAMES[ins]} refused with {tag:02X} twice" for tag in once}
         keys["repeated", ins] = f"{NAMES[ins]} done with a tag twice that it does not read"
-    return keys | {("end", end.name): end.name for end in ENDS}
+    return keys | {("end", name): name for name in END_NAMES}
 
 
 def never(times: Counter) -> list:

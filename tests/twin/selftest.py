@@ -4,7 +4,7 @@ import os
 import sys
 
 sys.path.insert(0, os.path.dirname(os.path.dirname(os.path.abspath(__file__))))
-from twin import selftest_plays, selftest_reasons, selftest_twice
+from twin import selftest_handover, selftest_plays, selftest_reasons, selftest_twice
 from twin.by_hand import (
     ACCESS, CHALLENGE, CID, CID_FIELD, CONFIRMED, FRESH, KEY, KEY_CHALLENGE, KEY_SALT, PIN1, PIN2, SALT, SHEET_LINES, WITH_WALLET,
     WRITTEN, hashes, questions, refused, sheet, tapped, word_of,
@@ -220,7 +220,7 @@ def purge_wallet():
     card = WITH_WALLET._replace(signed_hashes=5, last_signatures=bytes(64))
     response, after = tapped(card, "FC", CONFIRMED)
     assert response == CID_FIELD + "0201019000"
-    assert after == card._replace(status=EMPTY, remaining=0, wallet_public_key=b"")
+    assert after == card._replace(status=EMPTY, remaining=0, wallet_public_key=b"", last_signatures=b"")
     response, after = tapped(card._replace(reusable=0), "FC", CONFIRMED)
     assert response == CID_FIELD + "0201039000" and after.status == PURGED and after.wallet_number == 1
 
@@ -268,7 +268,7 @@ TESTS = (
     slip_repeat_is_free,
     read_card, create_wallet, check_wallet, set_pin, verify_card, validate_card, purge_wallet, user_data,
     read_issuer_data, what_is_a_card,
-    *selftest_reasons.TESTS, *selftest_twice.TESTS, *selftest_plays.TESTS,
+    *selftest_reasons.TESTS, *selftest_twice.TESTS, *selftest_handover.TESTS, *selftest_plays.TESTS,
 )
 
 

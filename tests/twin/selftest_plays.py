@@ -61,6 +61,15 @@ def play_sums_of_wallets():
     all_same("0\t3\t0\t3\n", *begun[:2], tap("FC", CONFIRMED, "", DEAD), create("6985"), reusable="0")
 
 
+def play_repeats_of_wallets():
+    """The repeat gives what the live wallet signed, and nothing where it has not signed or there is none."""
+    none, purge = tap("FB", CONFIRMED, "", "6985"), tap("FC", CONFIRMED, "", EMPTIED)
+    begun = create(), none, sign(3, signed(3, 6, 3)), tap("FB", CONFIRMED, "", signed(3, 6, 3)), purge, none, create(), none
+    all_same("7\t3\t0\t3\n", *begun)
+    all_same("6\t4\t1\t4\n", *begun, sign(1, signed(1, 6, 4)), tap("FB", CONFIRMED, "", signed(1, 6, 4)))
+    all_same("0\t3\t0\t3\n", *begun[:4], tap("FC", CONFIRMED, "", DEAD), none, reusable="0")
+
+
 def play_refused_signs():
     all_same("6\t1\t1\t1\n", create(), sign(1, signed(1, 6, 1)), sign(11, "6A86"), tap("FB", ACCESS + hashes(2), "", "6A86"))
     all_same(NO_SUMS, create("6985"), sign(1, "6985"), active="0")
@@ -125,6 +134,6 @@ def play_many_taps():
 
 
 TESTS = (
-    play_reads, play_sums, play_sums_of_wallets, play_refused_signs, play_new_codes, play_refusal_4, play_others, play_bad_lines,
-    play_bad_sheets, play_last_line_feed, play_long_lines, play_many_taps,
+    play_reads, play_sums, play_sums_of_wallets, play_repeats_of_wallets, play_refused_signs, play_new_codes, play_refusal_4, play_others,
+    play_bad_lines, play_bad_sheets, play_last_line_feed, play_long_lines, play_many_taps,
 )

@@ -1,4 +1,4 @@
--- When an image is a card, 01 "What the card is made of": one list of tests, each a clause of that sentence. Assumes nothing.
+-- When an image is a card, 01 "What the card is made of": one list of tests, each a clause of that sentence, and one of 02 Ask 2. Assumes nothing.
 use Prim.Native.Nat.{ℕ, _*_}
 use mathlib.Core.Bool.{Bool, true, cond, not, _&&_, _||_}
 use mathlib.Core.List.{List, [], _∷_}
@@ -89,6 +89,10 @@ issuerTests x = okBlock (x .block) ∷ (leb 1 (x .block .size) || allZero (drop 
 abbrev pub lastTests : Last → List Bool
 lastTests l = leb (l .count) mostHashes ∷ allZero (drop (l .count * signatureSize) (l .signatures)) ∷ []
 
+-- 02 Ask 2, "an Empty or Purged card holds none": signatures only with a wallet
+abbrev pub lastOwned : Wallet → Last → Bool
+lastOwned w l = isLoaded w || eqb (l .count) 0
+
 unfoldable pub okFlags : Flags → Bool
 okFlags g = every (flagTests g)
 
@@ -126,7 +130,7 @@ unfoldable pub okHeld : Held → Bool
 okHeld x = every (heldTests x)
 
 abbrev pub faceTests : Face → List Bool
-faceTests f = okFront (f .front) ∷ okHeld (f .held) ∷ okLast (f .last) ∷ []
+faceTests f = okFront (f .front) ∷ okHeld (f .held) ∷ okLast (f .last) ∷ lastOwned (f .front .wallet) (f .last) ∷ []
 
 unfoldable pub okFace : Face → Bool
 okFace f = every (faceTests f)

@@ -140,6 +140,7 @@ fn signed_anew(img: &[u8], answers: &[u8], next: &mut [u8])
     writing::anew::last(next, answers);
 }
 
+// Key and last signatures are forgotten: so many bytes of each are written anew, none.
 fn purged(img: &[u8], next: &mut [u8])
     ensures { λ _. ⌜ Turned (decode (now (img .entry)))
         (faced (purgedFace (decode (now (img .entry)) .face)) (decode (now (img .entry))))
@@ -149,6 +150,8 @@ fn purged(img: &[u8], next: &mut [u8])
     let flags = image::flags(img);
     writing::anew::wallet(next, wallet.purge(flags.reusable));
     writing::anew::key(next, wire::part(img, layout::KEY_AT + 1, 0));
+    let last = image::last(img);
+    writing::anew::last(next, wire::part(last, 0, 0));
 }
 
 // What is there is stored.

@@ -12,7 +12,7 @@ use Rattle.wire.proofs.Laws.{by-cases, both-true}
 use Rattle.fields.specs.Fields.{View, has, val, fld}
 use Rattle.card.specs.declared.Face.{Face}
 use Rattle.card.specs.Layout.{mostHashes}
-use Rattle.card.specs.Values.{keyOf, created, spent, risen, purged, heldKey, heldLast, withWallet, withCounters}
+use Rattle.card.specs.Values.{keyOf, created, spent, risen, purged, heldKey, heldLast, withWallet, withKey, withCounters}
 use Rattle.card.specs.Shape.{ShapeFace}
 use Rattle.cards.proofs.Shape.{held-codes-long, held-key-long, held-last-long, shape-with-wallet, shape-with-key, shape-with-counters, shape-with-last}
 use Rattle.manual.specs.Words.{hashSize, questionsRoom}
@@ -101,7 +101,8 @@ of-purgeWallet =
     record {
       shape = λ f v a s.
           let w = withWallet (purged (f .front .flags .reusable) (f .front .wallet)) f in
-          shape-with-key w (shape-with-wallet f s (purged (f .front .flags .reusable) (f .front .wallet))) (heldKey []) (held-key-long []);
+          let y = shape-with-key w (shape-with-wallet f s (purged (f .front .flags .reusable) (f .front .wallet))) (heldKey []) (held-key-long []) in
+          shape-with-last (withKey (heldKey []) w) y (heldLast []) (held-last-long []);
       codes = λ v x s. s;
       more = λ m. omega arith;
       loads = λ f v d s e. omega arith;

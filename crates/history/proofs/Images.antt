@@ -230,6 +230,7 @@ model-demand3 =
             balance = i .balance;
             signedHashes = i .total;
             fits = omega (arith, i .total, i .fits);
+            last = i .last;
           };
       next = λ sh m e es i.
           more-call sh (left model (holding m) es) (played model (holding m) [] es) i (fits-all sh (holding m) [] es (fits-fresh sh m e));

@@ -23,9 +23,9 @@ use Rattle.manual.specs.Checking.{checkWallet, keyAsked, keyMessage, salt}
 use Rattle.manual.specs.Commands.{row}
 use Rattle.manual.specs.Settle.{Call, sentIn, matched, fieldsOf, done, saidTo}
 use Rattle.facts.proofs.Facts.{Small, small-shape, facts, writes}
-use Rattle.story.specs.Sums.{Sheet, History, tap, toldIn, accepted, ins, did, signedNew, status, wallets, everPurged, made, total, given, usesWallet}
+use Rattle.story.specs.Sums.{Sheet, History, tap, toldIn, accepted, ins, did, signedNew, status, wallets, everPurged, made, total, usesWallet}
 use Rattle.history.specs.Demands.{signFields, signResponse, Entitled, NewSign, signQuestions, Asks, nothing, due, allKinds, Poses, isCardKind, mayAsk}
-use Rattle.history.specs.Demands.{Rightful, OneMore}
+use Rattle.history.specs.Demands.{given, Rightful, Repeated, OneMore}
 use Rattle.history.proofs.Choice.{both-true, or-false, clash, did-sign, by-ins, may-ask, may-ask-purged, uses-by}
 use Rattle.history.proofs.Taps.{has-told, val-told, Passed, by-tap, Carried, carried, lists}
 use Rattle.history.proofs.Seen.{look, watch, Inv}
@@ -227,13 +227,27 @@ module _ (sh : Sheet) (c : Card) (h : History) (i : Fits sh c h) (t : Call) wher
       ap (λ z. z .response) (carried-by (y .0) .isDone)
       ∙ (says ∙ (λ n. written (signFields (j .fixed n .cid) (lastOf (g .last)) (u n) (w n)) ++ be2 swProcessCompleted))
 
-  repeats-by : did Sign (tap q r) ≡ true → isNew v ≡ false → (r ≡ signResponse sh (tap q r ∷ h) (given h)) × (xs c q d ≡ [])
-  repeats-by e n =
+  told-last : did Sign (tap q r) ≡ true → val Signature (toldIn r) ≡ lastOf (g .last)
+  told-last e =
       let y = did-sign (tap q r) e in
-      let u : given (tap q r ∷ h) ≡ given h = rw (e, n) in (
-        sign-bytes e ∙ ap (signResponse sh (tap q r ∷ h)) (inv-after (y .0) .last ∙ u),
-        carried-by (y .0) .isAsked ∙ subst (λ j. row j .questions f v d ≡ []) (sym (y .1)) (no-question f v d n),
-      )
+      val-by Signature (y .0)
+      ∙ subst (λ j. firstOf Signature (fieldsOf (row j) (row j .next f v a) v d a) ≡ lastOf (row j .next f v a .last)) (sym (y .1)) refl
+
+  repeated : (x : List ℕ) → (xs c q d ≡ [] → x ≡ []) → did Sign (tap q r) ≡ true → isNew v ≡ false → Repeated sh h (tap q r) t x
+  repeated x h0 e n =
+      let y = did-sign (tap q r) e in
+      let b = carried-by (y .0) in
+      let p : Passed sign m f v = subst (λ j. Passed (row j) m f v) (y .1) (b .passed) in
+      let z = needed m f v p in
+      let same : g ≡ f = ap (λ j. row j .next f v a) (y .1) ∙ rw n in
+      let u : lastOf (g .last) ≡ given h = ap (λ j. lastOf (j .last)) same ∙ i .inv .last in
+      record {
+        isDue = entitled sign 2 true refl (λ _. refl) (λ _. refl) (z .alive) p;
+        some = i .inv .held (z .held n) .1;
+        questions = h0 (b .isAsked ∙ subst (λ j. row j .questions f v d ≡ []) (sym (y .1)) (no-question f v d n));
+        told = told-last e ∙ u;
+        bytes = sign-bytes e ∙ ap (signResponse sh (tap q r ∷ h)) u;
+      }
 
   rightful :
       (x : List ℕ) → (questionsRoom ≤ length (t .buffers .page) → x ≡ asked (xs c q d)) → signedNew (tap q r) ≡ true → Rightful sh h (tap q r) t x
@@ -245,12 +259,11 @@ module _ (sh : Sheet) (c : Card) (h : History) (i : Fits sh c h) (t : Call) wher
       subst
       (λ j. Passed (row j) m f v → shaped (row j .questions f v d) a ≡ true → Signed f v a (row j .questions f v d) (row j .next f v a))
       (sym (y .1)) (λ o. new-signed m f v d a o (w .1)) (b .passed) (b .shape) in
-      let u : given (tap q r ∷ h) ≡ val Signature (toldIn r) = rw e in
       record {
         isDue = new-sign (subst (λ j. Passed (row j) m f v) (y .1) (b .passed)) (w .1);
         questions = λ u. hx u ∙ ap asked (b .isAsked ∙ (s .questions ∙ same-questions));
         size = s .size;
-        answers = sym u ∙ (sym (inv-after (y .0) .last) ∙ s .last);
+        answers = told-last (w .0) ∙ s .last;
         bytes = sign-bytes (w .0) ∙ ap (signResponse sh (tap q r ∷ h)) (s .last);
       }
 
@@ -297,7 +310,7 @@ module _ (sh : Sheet) (c : Card) (h : History) (i : Fits sh c h) (t : Call) wher
           poses = posing _ kinds-by;
           spared = sparing;
           signs = rightful x hx;
-          repeats = λ e n. let y = repeats-by e n in (y .0, h0 (y .1));
+          repeats = repeated x h0;
           rows = lists m f q d a;
           pin1 = λ e _. rw (← i .inv .codes) (carried-by e .passed .pin1);
           cid = λ e _. cid-by e;

@@ -1,5 +1,5 @@
 -- What a history shows, together, and THE INVARIANT of a card and its history. Assumes nothing.
-use Prim.Native.Nat.{ℕ, _+_, _≤_}
+use Prim.Native.Nat.{ℕ, zero, suc, _+_, _≤_, _<_}
 use native.Mathlib.Omega.{arith}
 use mathlib.Core.Path.{_≡_, refl}
 use mathlib.Core.List.{List, [], _∷_}
@@ -13,7 +13,8 @@ use Rattle.card.specs.declared.Last.{Last}
 use Rattle.card.specs.declared.Face.{Face}
 use Rattle.card.specs.Layout.{top32}
 use Rattle.card.specs.Values.{lastOf, fresh}
-use Rattle.story.specs.Sums.{Sheet, Tap, History, accepted, active, wallets, status, everPurged, made, total, codes, given}
+use Rattle.story.specs.Sums.{Sheet, Tap, History, accepted, active, wallets, status, everPurged, made, total, codes}
+use Rattle.history.specs.Demands.{given}
 use Rattle.history.proofs.Choice.{clash}
 
 pub record Seen : Type 0 where
@@ -65,6 +66,7 @@ pub record Inv (sh : Sheet) (f : Watched) (x : Codes) (s : Seen) : Type 0 where
   pub total : f .wallet .signed ≡ s .total
   pub fits : f .wallet .signed ≤ top32
   pub last : lastOf (f .last) ≡ s .given
+  pub held : 0 < f .last .count → (s .status ≡ 2) × (1 ≤ s .made)
   pub balance : s .status ≡ 2 → f .wallet .remaining + s .made ≡ sh .fixed .max
   pub purged : sh .flags .reusable ≡ 0 → s .everPurged ≡ true → s .status ≡ 3
 
@@ -83,6 +85,19 @@ module _ (sh : Sheet) where
         total = refl;
         fits = omega arith;
         last = part-none _ 0;
+        held = λ e. absurd (omega arith);
         balance = λ e. absurd (omega arith);
         purged = λ r e. clash e refl;
       }
+
+-- no signatures are held where no wallet lives, and none held is none told
+pub none-held : {sh : Sheet} {f : Watched} {x : Codes} {s : Seen} → Inv sh f x s → (s .status ≡ 2 → ⊥) → f .last .count ≡ 0
+none-held {sh} {f} {x} {s} i n = go (f .last .count) (i .held)
+  where
+    go : (k : ℕ) → (0 < k → (s .status ≡ 2) × (1 ≤ s .made)) → k ≡ 0
+    go zero h = refl
+    go (suc k) h = absurd (n (h (omega arith) .0))
+
+pub none-told : (l : Last) → l .count ≡ 0 → lastOf l ≡ []
+unfolding lastOf
+none-told l e = rw e (part-none (l .signatures) 0)

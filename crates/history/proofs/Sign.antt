@@ -54,6 +54,8 @@ pub record Needed (m : Matched) (f : Face) (v : View) : Type 0 where
   pub some : isNew v ≡ true → 0 < f .front .wallet .remaining
   pub fits : isNew v ≡ true → f .front .wallet .signed + count v ≤ top32
   pub few : isNew v ≡ true → count v ≤ mostHashes
+  -- of the repeat
+  pub held : isNew v ≡ false → 0 < f .last .count
 
 pub needed : (m : Matched) (f : Face) (v : View) → Passed sign m f v → Needed m f v
 needed m f v h =
@@ -67,6 +69,7 @@ needed m f v h =
       some = λ n. ltb-true 0 (f .front .wallet .remaining) (conditions n .0);
       fits = λ n. leb-true (f .front .wallet .signed + count v) top32 (conditions n .1);
       few = λ n. few v n (h .fields);
+      held = λ n. ltb-true 0 (f .last .count) (rw n at (h .conditions));
     }
   where
     conditions : isNew v ≡ true → (ltb 0 (f .front .wallet .remaining) ≡ true) × (leb (f .front .wallet .signed + count v) top32 ≡ true)

@@ -22,8 +22,8 @@ use Rattle.manual.specs.Row.{plain, allowed, shaped, asked, eachAsked}
 use Rattle.manual.specs.Wallet.{curveName, hashQuestions}
 use Rattle.manual.specs.Checking.{saltSize}
 use Rattle.manual.specs.Settle.{State, holding, Call, sentIn, judgedBy, said, done, answered, lent, settledOf, settled, Settled, roomy, askedOf, askedFor}
-use Rattle.story.specs.Sums.{Sheet, History, accepted, made, total, wallets, status, everPurged, given}
-use Rattle.history.specs.Demands.{AnyCard, tapsOf, left, played, Fresh}
+use Rattle.story.specs.Sums.{Sheet, History, accepted, made, total, wallets, status, everPurged}
+use Rattle.history.specs.Demands.{AnyCard, given, tapsOf, left, played, Fresh}
 use Rattle.history.proofs.Images.{model}
 
 -- a call as it runs: to unfold this is to unfold all that a call computes with
@@ -124,16 +124,23 @@ story = creates ∷ ask0 ReadCard [] (1 ∷ []) ∷ signs 5 5 ∷ repeats ∷ pu
 abbrev lived : History
 lived = played model (holding image0) [] (tapsOf story)
 
+-- up to the purge
+abbrev signed : History
+signed = played model (holding image0) [] (tapsOf (creates ∷ signs 5 5 ∷ repeats ∷ []))
+
 abbrev ended : Card
 ended = decode (left model (holding image0) (tapsOf story) .image)
 
 pub examples :
     (length lived ≡ 6)
-    × ((made lived ≡ 0)
-    × ((total lived ≡ 5)
-    × ((wallets lived ≡ 2)
-    × ((status sheet0 lived ≡ 2)
-    × ((everPurged lived ≡ true)
-    × ((given lived ≡ replicate 320 5) × ((ended .face .front .wallet .remaining ≡ 5) × (ended .face .front .wallet .signed ≡ 5))))))))
+    × (made lived ≡ 0)
+    × (total lived ≡ 5)
+    × (wallets lived ≡ 2)
+    × (status sheet0 lived ≡ 2)
+    × (everPurged lived ≡ true)
+    × (given signed ≡ replicate 320 5)
+    × (given lived ≡ [])
+    × (ended .face .front .wallet .remaining ≡ 5)
+    × (ended .face .front .wallet .signed ≡ 5)
 unfolding run
-examples = (refl, (refl, (refl, (refl, (refl, (refl, (refl, (refl, refl))))))))
+examples = (refl, refl, refl, refl, refl, refl, refl, refl, refl, refl)

@@ -1,7 +1,7 @@
 -- THE CONDUCT of the commands on the wallet and the codes: F2, F8, FA, FB, FC. Assumes nothing.
 use Prim.Native.Nat.{ℕ, zero, suc, _+_, _≤_, _<_}
 use native.Mathlib.Omega.{arith}
-use mathlib.Core.Path.{_≡_, refl, ap, _∙_}
+use mathlib.Core.Path.{_≡_, refl, sym, ap, _∙_}
 use mathlib.Core.List.{List, [], _∷_}
 use mathlib.Core.Bool.{Bool, true, false, cond}
 use lib.ListN.{length, getD, drop}
@@ -15,7 +15,7 @@ use Rattle.card.specs.Values.{created, spent, purged, afterPurge, risen, heldKe
 use Rattle.card.specs.Valid.{keySize, okFace}
 use Rattle.kept.proofs.Tests.{valid, flagged}
 use Rattle.kept.proofs.Kept.{keeps-create, keeps-sign, keeps-purge, held-key-ok, held-last-ok, purged-key-ok}
-use Rattle.kept.proofs.Next.{ok-wallet-key, ok-wallet, ok-counters, ok-last}
+use Rattle.kept.proofs.Next.{ok-own, ok-wallet, ok-counters, ok-last}
 use Rattle.manual.specs.Words.{hashSize}
 use Rattle.manual.specs.Tags.{CID, Signature}
 use Rattle.manual.specs.declared.Command.the-variants.{ReadCard, CreateWallet, SetPin, Sign, PurgeWallet}
@@ -28,7 +28,7 @@ use Rattle.story.specs.Sums.{Sheet, History, tap, toldIn, wallets, made, total}
 use Rattle.history.specs.Demands.{allKinds, mayAsk}
 use Rattle.history.proofs.Choice.{by-cases, clash, Did}
 use Rattle.history.proofs.Taps.{Passed}
-use Rattle.history.proofs.Seen.{look, watch, Inv}
+use Rattle.history.proofs.Seen.{look, watch, Inv, none-held, none-told}
 use Rattle.history.proofs.Conduct.{Reports, Conduct, quiet, quietly, loaded, emptied, not-purged, same, Climbs}
 use Rattle.history.proofs.Sign.{exact, needed, answer-size, still}
 
@@ -74,6 +74,7 @@ module _ (m : Matched) (f : Face) (q d a : List ℕ) where
               total = i .total;
               fits = i .fits;
               last = i .last;
+              held = i .held;
               balance = i .balance;
               purged = i .purged;
             });
@@ -102,16 +103,19 @@ create-stays m f v d a p o g =
     let n : x .wallet .number < top16 = ltb-true (x .wallet .number) top16 (p .conditions) in
     let k = keeps-create (x .fixed) (x .flags) (x .wallet) (y .ranges) (y .state) e n (eqb-true (x .flags .active) 1 (p .awake)) in
     let z = key-fits (x .fixed .curve) a g in
-    ok-wallet-key f o (created (x .fixed .max) (x .wallet)) (heldKey a) (k .0) (k .1) (held-key-ok (x .fixed .curve) 2 a (z .0) (z .1))
+    ok-own f o (created (x .fixed .max) (x .wallet)) (heldKey a) (f .last) (k .0) (k .1) (held-key-ok (x .fixed .curve) 2 a (z .0) (z .1)) (y .last)
+    (k .2 (f .last))
 
 pub of-createWallet : (m : Matched) (f : Face) (q d a : List ℕ) → Passed createWallet m f (sentIn q) → Conduct CreateWallet f q d a
 of-createWallet m f q d a p =
+    let e : f .front .wallet .status ≡ 1 = emptied (createWallet .needs) (f .front .wallet .status) (p .allows) refl refl in
     record {
       reports = told-state (createWallet .next f (sentIn q) a) _ refl;
-      asks = rw (emptied (createWallet .needs) (f .front .wallet .status) (p .allows) refl refl) refl;
+      asks = rw e refl;
       keeps = λ sh x h r i t s.
           let n : f .front .wallet .number < top16 = ltb-true _ _ (p .conditions) in
           let u : f .front .wallet .number ≡ wallets h = i .number in
+          let z : f .last .count ≡ 0 = none-held i (λ y. omega (arith, e, i .status)) in
           rw (t .create, t .pin, t .sign, t .purge)
           (record {
             fixed = i .fixed;
@@ -123,7 +127,8 @@ of-createWallet m f q d a p =
             number = omega arith;
             total = i .total;
             fits = i .fits;
-            last = i .last;
+            last = none-told (f .last) z;
+            held = λ y. absurd (omega arith);
             balance = λ y. omega (arith, ap (λ z. z .max) (i .fixed));
             purged = λ b c. absurd (not-purged (createWallet .needs) (f .front .wallet .status) (p .allows) refl (i .status ∙ i .purged b c));
           });
@@ -147,16 +152,17 @@ sign-stays m f v d a p o g n =
     let k = keeps-sign (x .fixed) (x .flags) (count v) (x .wallet) (y .ranges) (y .state) in
     let w = withWallet (spent (count v) (x .wallet)) f in
     let c = ok-counters w (ok-wallet f o (spent (count v) (x .wallet)) (k .0) (k .1) refl) (risen (x .counters)) in
-    ok-last (withCounters (risen (x .counters)) w) c (heldLast a) (held-last-ok a (count v) (answer-size f v d a n g) (needed m f v p .few n))
+    let s = needed m f v p in
+    ok-last (withCounters (risen (x .counters)) w) c (heldLast a) (held-last-ok a (count v) (answer-size f v d a n g) (s .few n)) (rw (s .alive) refl)
 
 sign-keeps :
     (sh : Sheet) (f : Face) (x : Codes) (h : History) (q r a : List ℕ) → Inv sh (watch f) x (look sh h) → Did Sign (tap q r)
     → (b : Bool) → isNew (sentIn q) ≡ b
     → (b ≡ true → lastOf (heldLast a) ≡ val Signature (toldIn r)) → (b ≡ true → 0 < f .front .wallet .remaining)
-    → (b ≡ true → f .front .wallet .signed + count (sentIn q) ≤ top32)
+    → (b ≡ true → f .front .wallet .signed + count (sentIn q) ≤ top32) → f .front .wallet .status ≡ 2
     → Inv sh (watch (cond b (signedFace f (count (sentIn q)) a) f)) x (look sh (tap q r ∷ h))
-sign-keeps sh f x h q r a i t false n l y z = rw (t .create, t .pin, t .sign, t .purge, n) i
-sign-keeps sh f x h q r a i t true n l y z =
+sign-keeps sh f x h q r a i t false n l y z s = rw (t .create, t .pin, t .sign, t .purge, n) i
+sign-keeps sh f x h q r a i t true n l y z s =
     let u : f .front .wallet .signed ≡ total h = i .total in
     rw (t .create, t .pin, t .sign, t .purge, n)
     (record {
@@ -170,6 +176,7 @@ sign-keeps sh f x h q r a i t true n l y z =
       total = omega (arith, z refl);
       fits = omega (arith, z refl);
       last = l refl;
+      held = λ _. (sym (i .status) ∙ s, omega arith);
       balance = λ s. let b : f .front .wallet .remaining + made h ≡ sh .fixed .max = i .balance s in omega (arith, y refl);
       purged = i .purged;
     })
@@ -188,14 +195,14 @@ of-sign m f q d a p =
           (λ _. hash-kinds _ _ _ (count (sentIn q)) _ (rw (y .alive) refl))
           (λ _. refl);
       keeps = λ sh x h r i t s.
-          sign-keeps sh f x h q r a i t (isNew (sentIn q)) refl (λ n. rw n at s) (y .some) (y .fits);
+          sign-keeps sh f x h q r a i t (isNew (sentIn q)) refl (λ n. rw n at s) (y .some) (y .fits) (y .alive);
       stays = λ o g. by-cases (λ z. okFace z ≡ true) (isNew (sentIn q)) (λ n. sign-stays m f (sentIn q) d a p o g n) (λ _. o);
       alive = λ u e. not-purged (sign .needs) (f .front .wallet .status) (p .allows) refl e;
       climbs = λ g. by-cases (Climbs f) (isNew (sentIn q)) (λ _. same refl refl) (λ _. same refl refl);
     }
 
 -- FC
-not-two : (r : ℕ) → afterPurge r ≡ 2 → ⊥
+pub not-two : (r : ℕ) → afterPurge r ≡ 2 → ⊥
 not-two r = by-cases (λ n. n ≡ 2 → ⊥) (eqb r 1) (λ _ e. omega arith) (λ _ e. omega arith)
 
 pub of-purgeWallet : (m : Matched) (f : Face) (q d a : List ℕ) → Passed purgeWallet m f (sentIn q) → Conduct PurgeWallet f q d a
@@ -217,7 +224,8 @@ of-purgeWallet m f q d a p =
             number = i .number;
             total = i .total;
             fits = i .fits;
-            last = i .last;
+            last = none-told (heldLast []) refl;
+            held = λ y. absurd (omega arith);
             balance = λ y. absurd (not-two (sh .flags .reusable) y);
             purged = λ b c. rw b refl;
           });
@@ -225,7 +233,8 @@ of-purgeWallet m f q d a p =
           let v = valid f o in
           let l = leb-true (x .flags .reusable) 1 (flagged (x .flags) (v .flags) .reusable) in
           let k = keeps-purge (x .fixed) (x .flags) (x .wallet) (v .ranges) (v .state) e l in
-          ok-wallet-key f o (purged (x .flags .reusable) (x .wallet)) (heldKey []) (k .0) (k .1) (purged-key-ok (x .fixed .curve) (x .flags .reusable));
+          ok-own f o (purged (x .flags .reusable) (x .wallet)) (heldKey []) (heldLast []) (k .0) (k .1)
+          (purged-key-ok (x .fixed .curve) (x .flags .reusable)) (held-last-ok [] 0 refl (omega arith)) (k .2);
       alive = λ u e. clash u refl;
       climbs = λ g. same refl refl;
     }

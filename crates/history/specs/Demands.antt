@@ -9,13 +9,13 @@ use Rattle.wire.specs.Wire.{be1, be2, be4, Bytes}
 use Rattle.fields.specs.Fields.{View, has, holds, val, written, Tagged, fld, tlv}
 use Rattle.card.specs.declared.Card.{Card}
 use Rattle.card.specs.Layout.{signatureSize, top32}
-use Rattle.card.specs.Values.{fresh}
+use Rattle.card.specs.Values.{lastOf, fresh}
 use Rattle.card.specs.Image.{decode}
 use Rattle.card.specs.Valid.{isCard}
 use Rattle.manual.specs.Words.{swProcessCompleted, swErrorProcessingCommand, questionsRoom, responseRoom, drawSize}
 use Rattle.manual.specs.Words.{swWrongLength, swNeedEncryption, swInvalidStatus, swInvalidParams, swInsNotSupported, swClaNotSupported}
 use Rattle.manual.specs.Tags.{CID, PIN1, PIN2, CVC, Status, Challenge, TransactionHash, Signature, Remaining, SignedHashes}
-use Rattle.manual.specs.declared.Command.the-variants.{CreateWallet, CheckWallet, Sign}
+use Rattle.manual.specs.declared.Command.the-variants.{CreateWallet, CheckWallet, Sign, PurgeWallet}
 use Rattle.manual.specs.Request.{code, listed, insOf}
 use Rattle.manual.specs.Row.{Question, question, asked, shaped}
 use Rattle.manual.specs.Wallet.{isNew, count, hashQuestions}
@@ -24,7 +24,7 @@ use Rattle.manual.specs.Checking.{salt}
 use Rattle.manual.specs.Settle.{State, holding, Call, askCall, sentIn, Posed, Settled, askedFor}
 use Rattle.manual.specs.Settle.{settled, settledBy, posed, posedBy, outcome, untouched, over, roomy}
 use Rattle.story.specs.Sums.{Sheet, Tap, History, tap, toldIn, isDone, accepted, ins, did, signedNew}
-use Rattle.story.specs.Sums.{active, wallets, status, everPurged, made, total, codes, given, usesWallet}
+use Rattle.story.specs.Sums.{active, wallets, status, everPurged, made, total, codes, usesWallet}
 use Rattle.story.specs.Buffers.{questions, response, image}
 
 -- ANY CARD: what it can do, by kinds of calls; today a tap's ask and settle
@@ -145,6 +145,11 @@ pub record Fresh (sh : Sheet) (m : List ℕ) : Type 0 where
   pub spells : decode m ≡ fresh (sh .fixed) (sh .flags) (sh .codes)
 
 -- DEMAND 3. Below, h is the history so far, t the tap made next, i the call that made it, x the questions that ask wrote for it
+-- the signatures newly given last: each wallet begins with none, and leaves none behind (02 Ask 2)
+abbrev pub given : History → List ℕ
+given [] = []
+given (t ∷ h) = cond (did CreateWallet t || did PurgeWallet t) [] (cond (signedNew t) (val Signature (toldIn (t .response))) (given h))
+
 -- SIGN's response: CID, signatures, Remaining and Signed_Hashes
 abbrev pub signFields : List ℕ → List ℕ → ℕ → ℕ → List Tagged
 signFields cid signatures remaining hashes =
@@ -217,6 +222,14 @@ module _ (sh : Sheet) (h : History) (t : Tap) (i : Call) (x : List ℕ) where
     pub answers : val Signature (toldIn r) ≡ i .answers
     pub bytes : r ≡ signResponse sh (t ∷ h) (i .answers)
 
+  -- a repeat was due to a wallet that lives and has made new signatures; it asks nothing, and tells those that the last of its new SIGNs told
+  pub record Repeated : Type 0 where
+    pub isDue : Entitled sh h v 2 true
+    pub some : 1 ≤ made h
+    pub questions : x ≡ []
+    pub told : val Signature (toldIn r) ≡ given h
+    pub bytes : r ≡ signResponse sh (t ∷ h) (given h)
+
   pub record OneMore : Type 0 where
     -- accepted or not, SIGN asks for signatures, CREATE_WALLET for a key, CHECK_WALLET for the wallet's word on a challenge, only where that is due;
     -- no command asks for what is not its own; and a card that was purged and is not reusable asks neither for a wallet nor for its signature again
@@ -229,9 +242,9 @@ module _ (sh : Sheet) (h : History) (t : Tap) (i : Call) (x : List ℕ) where
         × Asks (Entitled sh h v 2 false) (question 3 (wallets h) (sh .fixed .curve) (val Challenge v ∷ salt (i .draw) ∷ []) ∷ more) x
     pub poses : Poses (mayAsk (ins (t .request)) (status sh h)) x
     pub spared : sh .flags .reusable ≡ 0 → everPurged h ≡ true → Poses isCardKind x
-    -- new signatures are rightful; a repeat tells those newly given last, and asks nothing
+    -- a SIGN that is accepted made new signatures, and they are rightful, or repeats those newly made for the live wallet
     pub signs : signedNew t ≡ true → Rightful
-    pub repeats : did Sign t ≡ true → isNew v ≡ false → (r ≡ signResponse sh (t ∷ h) (given h)) × (x ≡ [])
+    pub repeats : did Sign t ≡ true → isNew v ≡ false → Repeated
     -- what is accepted is a command of the table, was sent on the PIN1 in force, and its response begins with CID
     pub rows : accepted r ≡ true → listed (insOf (ins (t .request))) ≡ true
     pub pin1 : accepted r ≡ true → listed (insOf (ins (t .request))) ≡ true → holds PIN1 v (codes sh h .pin1) ≡ true
@@ -244,7 +257,8 @@ module _ (sh : Sheet) (h : History) (t : Tap) (i : Call) (x : List ℕ) where
     pub ended : sh .flags .reusable ≡ 0 → everPurged h ≡ true → usesWallet (ins (t .request)) ≡ true → (accepted r ≡ false) × (x ≡ [])
 
 -- THE CARD that a history left: its Status, wallet number and codes are those that the history shows; while a wallet lives, Remaining and the SIGNs that
--- made new signatures since its creation make up the maximum; Signed_Hashes is all hashes newly signed in the card's life, and that fits 32 bits
+-- made new signatures since its creation make up the maximum; Signed_Hashes is all hashes newly signed in the card's life, and that fits 32 bits; and the
+-- last signatures are those newly given last, none without a wallet
 pub record Kept (sh : Sheet) (h : History) (c : Card) : Type 0 where
   pub state : c .face .front .wallet .status ≡ status sh h
   pub number : c .face .front .wallet .number ≡ wallets h
@@ -252,6 +266,7 @@ pub record Kept (sh : Sheet) (h : History) (c : Card) : Type 0 where
   pub balance : status sh h ≡ 2 → c .face .front .wallet .remaining + made h ≡ sh .fixed .max
   pub signedHashes : c .face .front .wallet .signed ≡ total h
   pub fits : total h ≤ top32
+  pub last : lastOf (c .face .last) ≡ given h
 
 -- both, from a fresh card on: after any events, refused taps included, each given the state that the last one left
 pub record Demand3 (f : AnyCard) : Type 0 where

@@ -12,7 +12,7 @@ use Rattle.card.specs.declared.Face.{Face}
 use Rattle.card.specs.declared.Card.{Card}
 use Rattle.card.specs.Image.{decode}
 use Rattle.card.specs.Valid.{isCard}
-use Rattle.card.specs.Values.{u32, risen, heldKey, heldLast, purged, withWallet, withKey, withCounters, withLast}
+use Rattle.card.specs.Values.{u32, risen, heldKey, heldLast, withWallet, withKey, withCounters, withLast}
 use Rattle.manual.specs.Words.{swProcessCompleted, swInvalidStatus, questionsRoom, drawSize}
 use Rattle.manual.specs.declared.Command.{Command}
 use Rattle.manual.specs.declared.Command.the-variants.{ReadCard, SetPin, Sign, VerifyCard, PurgeWallet, WriteIssuerData}
@@ -22,7 +22,7 @@ use Rattle.manual.specs.declared.Outcome.{Outcome}
 use Rattle.manual.specs.Request.{code, command, payload}
 use Rattle.manual.specs.Tags.{Challenge}
 use Rattle.manual.specs.Row.{Matched, Question, question, asked, Row, gateOf, rules, passed}
-use Rattle.manual.specs.Wallet.{readCard, sign, purgeWallet, readFields, isNew, count, newCodes}
+use Rattle.manual.specs.Wallet.{readCard, sign, purgeWallet, purgedFace, readFields, isNew, count, newCodes}
 use Rattle.manual.specs.Checking.{verifyCard, salt}
 use Rattle.manual.specs.Storage.{writeIssuerData}
 use Rattle.manual.specs.Commands.{row}
@@ -195,8 +195,7 @@ hasty = outside (record { verdict = honest .verdict; asks = honest .asks; says =
 
 -- 9. KEEPS THE PURGED KEY (demand 2)
 abbrev pub hoarder : AnyCard
-hoarder =
-    outside (byRows (but PurgeWallet (withNext (λ f v a. withWallet (purged (f .front .flags .reusable) (f .front .wallet)) f) purgeWallet)))
+hoarder = outside (byRows (but PurgeWallet (withNext (λ f v a. withKey (f .front .key) (purgedFace f)) purgeWallet)))
 
 -- 10. ASKS FOR THE SIGNATURES of any new SIGN, whatever the codes (demand 3); what it says is right
 abbrev pub eagerly : Card → List ℕ → List ℕ → List Question

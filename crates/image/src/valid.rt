@@ -12,8 +12,8 @@ ghost use mathlib.Core.Bool.{cond};
 ghost use Prim.Native.Nat.{ℕ};
 ghost use mathlib.Core.List.{List};
 ghost use lib.Dec.{eqb};
-ghost use Rattle.card.specs.Image.{decode, decKey, decBlock, decIssuer, decLast, decHeld, decFront};
-ghost use Rattle.card.specs.Valid.{keySize, okFlags, okRanges, okState, okKey, okBlock, okIssuer, okLast, okFront, okHeld, okFace};
+ghost use Rattle.card.specs.Image.{decode, decWallet, decKey, decBlock, decIssuer, decLast, decHeld, decFront};
+ghost use Rattle.card.specs.Valid.{keySize, okFlags, okRanges, okState, okKey, okBlock, okIssuer, okLast, lastOwned, okFront, okHeld, okFace};
 
 // Every flag is 0 or 1.
 fn flags_ok(x: Flags) -> bool
@@ -130,6 +130,17 @@ fn last_ok(img: &[u8]) -> bool
     )
 }
 
+// Signatures only with a wallet.
+fn last_owned(img: &[u8]) -> bool
+    ensures { λ r. ⌜ r ≡ lastOwned (decWallet (now (img .entry))) (decLast (now (img .entry))) ⌝ }
+{
+    if wire::get8(img, layout::WALLET_AT as u32) == Wallet::LOADED {
+        return true;
+    }
+    let count = wire::get8(img, layout::LAST_AT as u32);
+    count == 0
+}
+
 fn front_ok(img: &[u8]) -> bool
     ensures { λ r. ⌜ r ≡ okFront (decFront (now (img .entry))) ⌝ }
 {
@@ -156,7 +167,9 @@ pub fn face_ok(img: &[u8]) -> bool
 {
     if front_ok(img) {
         if held_ok(img) {
-            return last_ok(img);
+            if last_ok(img) {
+                return last_owned(img);
+            }
         }
     }
     false

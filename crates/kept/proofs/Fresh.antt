@@ -54,6 +54,7 @@ module _ (x : Fixed) (g : Flags) (k : Codes) where
         protected = no-block-ok;
         issuer = no-issuer-ok;
         last = no-last-ok;
+        owned = refl;
       })
 
   -- so its image is a card

@@ -1,21 +1,25 @@
 -- WHAT MAKES AN IMAGE A CARD IS KEPT: by each method of the wallet, by what is held, and so by a face with a group anew. Assumes nothing.
 use Prim.Native.Nat.{ℕ, _+_, _-_, _*_, _/_, _≤_, _<_}
 use native.Mathlib.Omega.{arith}
-use mathlib.Core.Path.{_≡_, refl, sym, _∙_}
+use mathlib.Core.Path.{_≡_, refl, sym, ap, ap₂, _∙_}
 use mathlib.Core.Bool.{Bool, true, false, cond, not, _||_}
-use mathlib.Core.List.{List, []}
-use lib.ListN.{length, getD}
+use mathlib.Core.List.{List, [], _∷_}
+use lib.ListN.{length, getD, replicate}
 use lib.Dec.{leb, eqb}
 use borrow.Author.Tests.{le-leb, leb-true, eq-eqb, eqb-true, eqb-false}
-use Rattle.wire.specs.Wire.{pad}
+use Rattle.wire.specs.Wire.{pad, allZero}
+use Rattle.wire.proofs.Laws.{both-true}
 use Rattle.wire.proofs.Parts.{pad-whole, pad-room, part-pad}
 use Rattle.card.specs.declared.Fixed.{Fixed}
 use Rattle.card.specs.declared.Flags.{Flags}
 use Rattle.card.specs.declared.Wallet.{Wallet}
+use Rattle.card.specs.declared.Last.{Last}
+use Rattle.card.specs.declared.Face.{Face}
 use Rattle.card.specs.Layout.{keyRoom, keyShort, dataRoom, signatureSize, mostHashes, lastRoom, top16}
-use Rattle.card.specs.Values.{u8, u16, created, spent, purged, afterPurge, heldKey, heldBlock, heldIssuer, heldLast, lastOf}
-use Rattle.card.specs.Valid.{keySize, keyTests, blockTests, issuerTests, lastTests, okRanges, okState, okKey, okBlock, okIssuer, okLast}
-use Rattle.kept.proofs.Tests.{or-true, join, ranged, is-ranged, stated, is-stated}
+use Rattle.card.specs.Values.{u8, u16, created, spent, purged, afterPurge, heldKey, heldBlock, heldIssuer, heldLast, lastOf, noLast}
+use Rattle.card.specs.Valid.{isLoaded, keySize, keyTests, blockTests, issuerTests, lastTests}
+use Rattle.card.specs.Valid.{okRanges, okState, okKey, okBlock, okIssuer, okLast, lastOwned, okFace}
+use Rattle.kept.proofs.Tests.{or-true, split, join, ranged, is-ranged, stated, is-stated, valid}
 
 or-left : (a : Bool) → (a || false) ≡ true → a ≡ true
 or-left true e = refl
@@ -27,7 +31,9 @@ once-more true n e = refl
 once-more false n e = let z : n ≡ 0 = eqb-true n 0 e in eq-eqb (u16 (n + 1)) 1 (omega arith)
 
 module _ (x : Fixed) (g : Flags) (w : Wallet) (ranges : okRanges x w ≡ true) (state : okState g w ≡ true) where
-  pub keeps-create : w .status ≡ 1 → w .number < top16 → g .active ≡ 1 → (okRanges x (created (x .max) w) ≡ true) × (okState g (created (x .max) w) ≡ true)
+  pub keeps-create :
+      w .status ≡ 1 → w .number < top16 → g .active ≡ 1
+      → (okRanges x (created (x .max) w) ≡ true) × (okState g (created (x .max) w) ≡ true) × ((l : Last) → lastOwned (created (x .max) w) l ≡ true)
   keeps-create empty low awake =
       let r = ranged x w ranges in
       let s = stated g w state in
@@ -42,6 +48,7 @@ module _ (x : Fixed) (g : Flags) (w : Wallet) (ranges : okRanges x w ≡ true) (
               purges = or-true (eqb (g .reusable) 0) refl;
               asleep = rw (eq-eqb _ _ awake);
             }),
+        λ l. refl,
       )
 
 -- FB: whatever the number of hashes
@@ -80,7 +87,10 @@ after-purges m h true e = or-true (eqb m 0) refl
 after-purges m h false e = let n = eqb-false m 1 e in let z : m ≡ 0 = omega arith in rw (eq-eqb m 0 z)
 
 module _ (x : Fixed) (g : Flags) (w : Wallet) (ranges : okRanges x w ≡ true) (state : okState g w ≡ true) where
-  pub keeps-purge : w .status ≡ 2 → g .reusable ≤ 1 → (okRanges x (purged (g .reusable) w) ≡ true) × (okState g (purged (g .reusable) w) ≡ true)
+  pub keeps-purge :
+      w .status ≡ 2 → g .reusable ≤ 1
+      → (okRanges x (purged (g .reusable) w) ≡ true) × (okState g (purged (g .reusable) w) ≡ true)
+      × (lastOwned (purged (g .reusable) w) (heldLast []) ≡ true)
   keeps-purge loaded flag =
       let r = ranged x w ranges in
       let s = stated g w state in
@@ -104,6 +114,7 @@ module _ (x : Fixed) (g : Flags) (w : Wallet) (ranges : okRanges x w ≡ true) (
               purges = after-purges (g .reusable) flag again refl;
               asleep = rw awake;
             }),
+        or-true (eqb (next .status) 2) refl,
       )
 
 -- WHAT IS HELD: a key of the size that curve and status ask for, where it fills its room only with 04 in front
@@ -178,3 +189,17 @@ purged-key-ok curve reusable = no-key-ok curve (afterPurge reusable) (go (eqb re
     go : (b : Bool) → eqb (cond b 1 3) 2 ≡ false
     go true = refl
     go false = refl
+
+-- AN EMPTY OR PURGED CARD HOLDS NO SIGNATURES, and their room is zero
+zeros : (l : List ℕ) → allZero l ≡ true → l ≡ replicate (length l) 0
+unfolding allZero
+zeros [] e = refl
+zeros (x ∷ l) e = let y = both-true (eqb x 0) (allZero l) e in ap₂ _∷_ (eqb-true x 0 (y .0)) (zeros l (y .1))
+
+pub holds-none : (f : Face) → okFace f ≡ true → length (f .last .signatures) ≡ lastRoom → isLoaded (f .front .wallet) ≡ false → f .last ≡ noLast
+unfolding okLast
+holds-none f ok long none =
+    let v = valid f ok in
+    let count : f .last .count ≡ 0 = eqb-true (f .last .count) 0 (rw none at (v .owned)) in
+    let zero : allZero (f .last .signatures) ≡ true = rw count at (split (lastTests (f .last)) (v .last) .1) in
+    λ i. record { count = count i; signatures = (zeros (f .last .signatures) zero ∙ ap (λ n. replicate n 0) long) i }

@@ -9,7 +9,7 @@ use Rattle.card.specs.declared.Flags.{Flags}
 use Rattle.card.specs.declared.Wallet.{Wallet}
 use Rattle.card.specs.declared.Face.{Face}
 use Rattle.card.specs.Valid.{every, isEmpty, isLoaded, flagTests, curveKnown, statusKnown, rangeTests, stateTests, frontTests, heldTests, faceTests}
-use Rattle.card.specs.Valid.{okFlags, okRanges, okState, okKey, okBlock, okIssuer, okLast, okFront, okHeld, okFace}
+use Rattle.card.specs.Valid.{okFlags, okRanges, okState, okKey, okBlock, okIssuer, okLast, lastOwned, okFront, okHeld, okFace}
 
 -- what `every` says, as a product that computes, and back
 abbrev pub Every : List Bool → Type 0
@@ -24,7 +24,7 @@ pub or-true : (a : Bool) {b : Bool} → b ≡ true → (a || b) ≡ true
 or-true true e = refl
 or-true false e = e
 
-split : (bs : List Bool) → every bs ≡ true → Every bs
+pub split : (bs : List Bool) → every bs ≡ true → Every bs
 split [] e = tt
 split (a ∷ []) e = e
 split (a ∷ b ∷ bs) e = let p = both-true a (every (b ∷ bs)) e in (p .0, split (b ∷ bs) (p .1))
@@ -96,6 +96,7 @@ pub record Valid (f : Face) : Type 0 where
   pub protected : okBlock (f .held .protected) ≡ true
   pub issuer : okIssuer (f .held .issuer) ≡ true
   pub last : okLast (f .last) ≡ true
+  pub owned : lastOwned (f .front .wallet) (f .last) ≡ true
 
 pub valid : (f : Face) → okFace f ≡ true → Valid f
 unfolding okFace okFront okHeld
@@ -111,7 +112,8 @@ valid f e =
       user = y .0;
       protected = y .1 .0;
       issuer = y .1 .1;
-      last = s .1 .1;
+      last = s .1 .1 .0;
+      owned = s .1 .1 .1;
     }
 
 pub is-valid : (f : Face) → Valid f → okFace f ≡ true
@@ -119,4 +121,4 @@ unfolding okFace okFront okHeld
 is-valid f v =
     let x = join (frontTests (f .front)) (v .flags, (v .ranges, (v .state, v .key))) in
     let y = join (heldTests (f .held)) (v .user, (v .protected, v .issuer)) in
-    join (faceTests f) (x, (y, v .last))
+    join (faceTests f) (x, (y, (v .last, v .owned)))

@@ -147,9 +147,9 @@ sign =
       more = λ m. 0;
     }
 
--- FC PURGE_WALLET: purge not prohibited; key forgotten, Remaining 0, Empty if reusable, else Purged; the other values stay
+-- FC PURGE_WALLET: purge not prohibited; key and last signatures (02 Ask 2) forgotten, Remaining 0, Empty if reusable, else Purged; the other values stay
 abbrev pub purgedFace : Face → Face
-purgedFace f = withKey (heldKey []) (withWallet (purged (f .front .flags .reusable) (f .front .wallet)) f)
+purgedFace f = withLast (heldLast []) (withKey (heldKey []) (withWallet (purged (f .front .flags .reusable) (f .front .wallet)) f))
 
 abbrev pub purgeWallet : Row
 purgeWallet =

@@ -5,13 +5,12 @@ use mathlib.Core.Bool.{Bool, false, cond, _&&_, _||_}
 use lib.ListN.{length, getD, take}
 use lib.Dec.{leb, eqb}
 use Rattle.wire.specs.Wire.{num16}
-use Rattle.fields.specs.Fields.{View, viewOf, val}
+use Rattle.fields.specs.Fields.{View, viewOf}
 use Rattle.card.specs.declared.Codes.{Codes}
 use Rattle.card.specs.declared.Fixed.{Fixed}
 use Rattle.card.specs.declared.Flags.{Flags}
 use Rattle.card.specs.Values.{afterPurge}
 use Rattle.manual.specs.Words.{swProcessCompleted}
-use Rattle.manual.specs.Tags.{Signature}
 use Rattle.manual.specs.declared.Command.{Command}
 use Rattle.manual.specs.declared.Command.the-variants.{CreateWallet, CheckWallet, SetPin, Sign, PurgeWallet}
 use Rattle.manual.specs.Request.{code}
@@ -104,11 +103,6 @@ total (t ∷ h) = cond (signedNew t) (total h + count (sentIn (t .request))) (to
 abbrev pub codes : Sheet → History → Codes
 codes sh [] = sh .codes
 codes sh (t ∷ h) = cond (did SetPin t) (newCodes (sentIn (t .request))) (codes sh h)
-
--- the signatures newly given last
-abbrev pub given : History → List ℕ
-given [] = []
-given (t ∷ h) = cond (signedNew t) (val Signature (toldIn (t .response))) (given h)
 
 -- commands that make a wallet or a wallet signature
 abbrev pub usesWallet : ℕ → Bool

@@ -14,22 +14,45 @@ held-ok-requires c κs = tt
 last-ok-requires : tie.Need-last-ok-requires
 last-ok-requires c κs = tt
 
+last-owned-requires : tie.Need-last-owned-requires
+last-owned-requires c κs = tt
+
 returns : tie.Need-returns
 unfolding decode okFace
 returns c =
-    let h = c .before in
+    let l = c .before in
+    let h = l .before .before in
     let f = h .before .before in
-    passed (sym (f .before .front-ok .ensures) ∙ f .if1 .taken) (passed (sym (h .before .held-ok .ensures) ∙ h .if2 .taken) (c .last-ok .ensures))
+    passed (sym (f .before .front-ok .ensures) ∙ f .if1 .taken)
+    (passed (sym (h .before .held-ok .ensures) ∙ h .if2 .taken) (passed (sym (l .before .last-ok .ensures) ∙ l .if3 .taken) (c .last-owned .ensures)))
 
 returns-2 : tie.Need-returns-2
 unfolding decode okFace
 returns-2 c =
-    let f = c .before .before in
-    passed (sym (f .before .front-ok .ensures) ∙ f .if1 .taken) (ended _ (sym (c .before .held-ok .ensures) ∙ c .if2 .left))
+    let h = c .before .before in
+    let f = h .before .before in
+    passed (sym (f .before .front-ok .ensures) ∙ f .if1 .taken)
+    (passed (sym (h .before .held-ok .ensures) ∙ h .if2 .taken) (ended _ (sym (c .before .last-ok .ensures) ∙ c .if3 .left)))
 
 returns-3 : tie.Need-returns-3
 unfolding decode okFace
-returns-3 c = ended _ (sym (c .before .front-ok .ensures) ∙ c .if1 .left)
+returns-3 c =
+    let f = c .before .before in
+    passed (sym (f .before .front-ok .ensures) ∙ f .if1 .taken) (ended _ (sym (c .before .held-ok .ensures) ∙ c .if2 .left))
+
+returns-4 : tie.Need-returns-4
+unfolding decode okFace
+returns-4 c = ended _ (sym (c .before .front-ok .ensures) ∙ c .if1 .left)
 
 pub face-ok-spec : {M : Type 1} → statement M
-face-ok-spec = tie.close (tie.spec front-ok-requires held-ok-requires last-ok-requires returns returns-2 returns-3)
+face-ok-spec =
+    tie.close
+    (tie.spec
+    front-ok-requires
+    held-ok-requires
+    last-ok-requires
+    last-owned-requires
+    returns
+    returns-2
+    returns-3
+    returns-4)
