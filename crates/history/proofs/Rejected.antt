@@ -1,5 +1,5 @@
 -- THE WRONG CARDS of specs/Wrong.antt, each shown to be rejected by the demand named: one call, or a few, on which it differs. Assumes nothing.
-use Prim.Native.Nat.{ℕ, suc}
+use Prim.Native.Nat.{ℕ, suc, _≤_}
 use native.Mathlib.Omega.{arith}
 use mathlib.Core.Path.{_≡_, refl, ap, _∙_}
 use mathlib.Core.List.{List, [], _∷_}
@@ -9,7 +9,7 @@ use lib.Dec.{lit≤}
 use Rattle.wire.specs.Wire.{joined}
 use Rattle.fields.specs.Fields.{fld}
 use Rattle.card.specs.declared.Card.{Card}
-use Rattle.card.specs.Layout.{pinSize, signatureSize, walletAt, keyAt}
+use Rattle.card.specs.Layout.{pinSize, signatureSize, walletAt, keyAt, lastAt}
 use Rattle.card.specs.Image.{decode}
 use Rattle.manual.specs.Words.{swProcessCompleted, questionsRoom}
 use Rattle.manual.specs.Tags.{NewPIN1, NewPIN2, Challenge}
@@ -25,11 +25,11 @@ use Rattle.history.specs.Demands.{AnyCard, isRefusal, Asked, noneAsked, 
 use Rattle.history.specs.Demands.{tapsOf, left, Asks, nothing, due, allKinds, Poses, Demand3}
 use Rattle.history.specs.Wrong.{outside, judgedBy, asksBy, saysBy, honest}
 use Rattle.history.specs.Wrong.{refuser, yesSayer, forgetter, repeater, proud, oldCard, greedy, hasty, hoarder}
-use Rattle.history.specs.Wrong.{eager, riser, teller, forger, notary, babbler, stubborn, inventor, mute, firstTaker}
+use Rattle.history.specs.Wrong.{eager, riser, teller, forger, notary, babbler, stubborn, inventor, mute, firstTaker, heir}
 use Rattle.history.proofs.Choice.{both-true, clash}
 use Rattle.history.proofs.Images.{model}
 use Rattle.history.proofs.Story.{run, sheet0, image0, fresh0, sheet1, image1, fresh1, codes1, request, call}
-use Rattle.history.proofs.Story.{ask0, reads, creates, hashes, signs, purges, verifies, notes}
+use Rattle.history.proofs.Story.{ask0, reads, creates, hashes, signs, repeats, purges, verifies, notes}
 
 -- THE FRAME of the wrong cards is right: with the manual's rows it meets demand 2
 same-asks : (z : Verdict) (c : Card) (q d : List ℕ) → asksBy row z c q d ≡ questionsOf z (c .face) q d
@@ -228,4 +228,17 @@ firstTaker-rejected h =
     let setting : Call =
     ask0 SetPin (fld NewPIN1 (sheet0 .codes .pin1) ∷ fld NewPIN2 (replicate pinSize 8) ∷ fld NewPIN2 (codes1 .pin2) ∷ []) [] in
     let e : _≡_ {A = ℕ} 0x01 0x6A = ap (λ z. getD (z .response) 0 0) (by-manual h [] setting) in
+    absurd (omega arith)
+
+-- 20. leaves a purged wallet's signatures to the next one: its repeat is accepted, and the new wallet has made none
+pub heir-rejected-2 : Demand2 heir → ⊥
+unfolding run
+heir-rejected-2 h =
+    let e : _≡_ {A = ℕ} 1 0 = ap (λ z. getD (z .next) lastAt 0) (by-manual h (creates ∷ signs 1 5 ∷ []) purges) in
+    absurd (omega arith)
+
+pub heir-rejected-3 : Demand3 heir → ⊥
+unfolding run
+heir-rejected-3 h =
+    let e : 1 ≤ 0 = h .next sheet0 image0 fresh0 (tapsOf (creates ∷ signs 1 5 ∷ purges ∷ creates ∷ [])) repeats .repeats refl refl .some in
     absurd (omega arith)

@@ -10,8 +10,9 @@ use Rattle.fields.specs.Fields.{View, val, wellFormed, Tagged}
 use Rattle.card.specs.declared.Wallet.{Wallet}
 use Rattle.card.specs.declared.Face.{Face}
 use Rattle.card.specs.declared.Card.{Card}
+use Rattle.card.specs.Layout.{imageSize}
 use Rattle.card.specs.Image.{decode}
-use Rattle.card.specs.Valid.{isCard}
+use Rattle.card.specs.Valid.{every, okFront, okHeld, okLast, isCard}
 use Rattle.card.specs.Values.{u32, risen, heldKey, heldLast, withWallet, withKey, withCounters, withLast}
 use Rattle.manual.specs.Words.{swProcessCompleted, swInvalidStatus, questionsRoom, drawSize}
 use Rattle.manual.specs.declared.Command.{Command}
@@ -38,10 +39,10 @@ pub record Inside : Type 0 where
   pub says : Card → List ℕ → List ℕ → List ℕ → Said
   pub leaves : Card → List ℕ → Said → Card
 
--- numbers 1 to 3, and the buffers, as 01 has them
-abbrev pub asksOutside : Inside → State → Call → Posed
-asksOutside x s i =
-    cond (isCard (s .image))
+-- numbers 1 to 3, and the buffers, as 01 has them; an image is tested as is said
+abbrev pub asksOutside : (List ℕ → Bool) → Inside → State → Call → Posed
+asksOutside test x s i =
+    cond (test (s .image))
     (cond (leb questionsRoom (length (i .buffers .page)))
     (cond (eqb (length (i .draw)) drawSize)
     (posed (reasonOf (x .verdict (decode (s .image)) (i .request))) (wordOf (x .verdict (decode (s .image)) (i .request)))
@@ -50,10 +51,10 @@ asksOutside x s i =
     (posedBy (outcome 2 0 0 0) (i .buffers .page)))
     (posedBy (outcome 1 0 0 0) (i .buffers .page))
 
-abbrev pub settlesOutside : Inside → State → Call → Settled
-settlesOutside x s i =
+abbrev pub settlesOutside : (List ℕ → Bool) → Inside → State → Call → Settled
+settlesOutside test x s i =
     let z : Said = x .says (decode (s .image)) (i .request) (i .draw) (i .answers) in
-    cond (isCard (s .image))
+    cond (test (s .image))
     (cond (roomy (length (i .buffers .out)) (length (i .buffers .next)))
     (cond (eqb (length (i .draw)) drawSize)
     (lent z (x .leaves (decode (s .image)) (i .request) z) (i .buffers .out) (i .buffers .next))
@@ -61,8 +62,11 @@ settlesOutside x s i =
     (untouched 2 (i .buffers .out) (i .buffers .next)))
     (untouched 1 (i .buffers .out) (i .buffers .next))
 
+abbrev pub outsideBy : (List ℕ → Bool) → Inside → AnyCard
+outsideBy test x = record { taps = record { ask = asksOutside test x; settle = settlesOutside test x } }
+
 abbrev pub outside : Inside → AnyCard
-outside x = record { taps = record { ask = asksOutside x; settle = settlesOutside x } }
+outside = outsideBy isCard
 
 -- a card with these rows
 abbrev pub judgedBy : (Command → Row) → Card → List ℕ → Verdict
@@ -275,3 +279,13 @@ unreasonedSettle x = settledBy (unreasoned (x .result)) (x .response) (x .next)
 -- 19. TAKES THE FIRST of two fields with one tag (demand 2), as the card did until it refused both
 abbrev pub firstTaker : AnyCard
 firstTaker = outside (byRows (λ k. withReads [] (row k)))
+
+-- 20. LEAVES A PURGED WALLET'S SIGNATURES TO THE NEXT ONE (demands 2 and 3), as the card did until a purge forgot them, with the tests of an image that
+-- there were then; by those of now its purge would leave no card
+abbrev pub wasCard : List ℕ → Bool
+wasCard img =
+    let f : Face = decode img .face in
+    eqb (length img) imageSize && every (okFront (f .front) ∷ okHeld (f .held) ∷ okLast (f .last) ∷ [])
+
+abbrev pub heir : AnyCard
+heir = outsideBy wasCard (byRows (but PurgeWallet (withNext (λ f v a. withLast (f .last) (purgedFace f)) purgeWallet)))
