@@ -55,6 +55,13 @@ module _ (k : Command) (listed : listedIn commands (code k) ≡ Listed k) where
       let y = both-true (accepted (t .response)) (eqb (ins (t .request)) (code k)) e in
       (y .0, by-ins (t .request) (eqb-true (ins (t .request)) (code k) (y .1)))
 
+-- an accepted command has one INS
+pub one-ins : (t : Tap) (j k : Command) → eqb (code j) (code k) ≡ false → did j t ≡ true → did k t ≡ false
+one-ins t j k n e =
+    let z = both-true (accepted (t .response)) (eqb (ins (t .request)) (code j)) e in
+    let w : ins (t .request) ≡ code j = eqb-true _ _ (z .1) in
+    rw (z .0, w) n
+
 -- which sums a tap that was accepted counts in, by its command
 pub record Did (k : Command) (t : Tap) : Type 0 where
   pub create : did CreateWallet t ≡ eqb (code k) (code CreateWallet)
@@ -73,6 +80,9 @@ did-by q r e =
 
 pub did-sign : (t : Tap) → did Sign t ≡ true → (accepted (t .response) ≡ true) × (command (t .request) ≡ Sign)
 did-sign = did-is Sign refl
+
+pub did-purge : (t : Tap) → did PurgeWallet t ≡ true → (accepted (t .response) ≡ true) × (command (t .request) ≡ PurgeWallet)
+did-purge = did-is PurgeWallet refl
 
 pub did-note : (t : Tap) → did WriteIssuerData t ≡ true → (accepted (t .response) ≡ true) × (command (t .request) ≡ WriteIssuerData)
 did-note = did-is WriteIssuerData refl

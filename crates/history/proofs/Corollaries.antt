@@ -1,5 +1,5 @@
 -- What follows for a SIGN, of any card that meets demand 2: its cost, the repeat for nothing, and where the signatures stand. Assumes nothing.
-use Prim.Native.Nat.{ℕ, zero, suc, _+_, _-_, _*_, _≤_, _<_}
+use Prim.Native.Nat.{ℕ, zero, suc, _+_, _*_, _≤_, _<_}
 use native.Mathlib.Omega.{arith}
 use mathlib.Core.Path.{_≡_, refl, sym, ap, _∙_, subst}
 use mathlib.Core.List.{List, [], _∷_, _++_, append-assoc}
@@ -27,7 +27,7 @@ use Rattle.manual.specs.declared.Command.{Command}
 use Rattle.manual.specs.declared.Command.the-variants.{Sign}
 use Rattle.manual.specs.Request.{command}
 use Rattle.manual.specs.Row.{Matched, Question, question, asked}
-use Rattle.manual.specs.Wallet.{sign, isNew, count, hashQuestions}
+use Rattle.manual.specs.Wallet.{isNew, count, hashQuestions}
 use Rattle.manual.specs.Commands.{row}
 use Rattle.manual.specs.Settle.{State, holding, Call, sentIn, matched, done, saidTo, cardAfter}
 use Rattle.story.specs.Sums.{Sheet, tap, toldIn, isDone, accepted, did, signedNew, wallets}
@@ -55,13 +55,12 @@ module _ (c : Card) (q d a : List ℕ) where
   abbrev r : List ℕ
   r = saidTo c q d a .response
 
-  -- the card after a SIGN that was accepted
-  after-sign :
-      did Sign (tap q r) ≡ true
-      → (Passed sign m (c .face) v) × (after c q d a ≡ record { face = sign .next (c .face) v a; codes = sign .recode v (c .codes) })
+  -- the card after a command that was accepted
+  pub after-done :
+      (j : Command) → (accepted r ≡ true) × (k ≡ j)
+      → (Passed (row j) m (c .face) v) × (after c q d a ≡ record { face = row j .next (c .face) v a; codes = row j .recode v (c .codes) })
   unfolding done
-  after-sign e =
-      let y = did-sign (tap q r) e in
+  after-done j y =
       let b = carried m (c .face) q d a (y .0) in (
         subst (λ j. Passed (row j) m (c .face) v) (y .1) (b .passed),
         ap (λ z. cardAfter z (c .codes) q) (b .isDone)
@@ -71,14 +70,14 @@ module _ (c : Card) (q d a : List ℕ) where
   sign-cost : signedNew (tap q r) ≡ true → Cost c (after c q d a) (count v)
   sign-cost e =
       let w = both-true (did Sign (tap q r)) (isNew v) e in
-      let z = after-sign (w .0) in
+      let z = after-done Sign (did-sign (tap q r) (w .0)) in
       let n = needed m (c .face) v (z .0) in
       let x = n .some (w .1) in
       let y = n .fits (w .1) in
       rw (z .1, w .1) (record { remaining = omega arith; signedHashes = omega arith; few = n .few (w .1) })
 
   repeat-card : did Sign (tap q r) ≡ true → isNew v ≡ false → after c q d a ≡ c
-  repeat-card e n = after-sign e .1 ∙ rw n refl
+  repeat-card e n = after-done Sign (did-sign (tap q r) e) .1 ∙ rw n refl
 
 -- FIVE HASHES, or any number of them, cost one signature and count as five
 cost-model :

@@ -14,6 +14,8 @@ pub mod Agrees
 pub mod Theorems
 pub mod Reasons
 pub mod Corollaries
+pub mod Events
+pub mod Handover
 pub mod Notes
 pub mod Story
 pub mod Rejected

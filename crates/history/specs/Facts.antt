@@ -1,4 +1,5 @@
--- What the further theorems speak of: a card unchanged, the first check to fail, a field that stands twice, what a SIGN costs, a note that is too old.
+-- What the further theorems speak of: a card unchanged, the first check to fail, a field that stands twice, what a SIGN costs, what a purge takes, the
+-- SIGN that a repeat tells again, a note that is too old.
 -- Assumes nothing.
 use Prim.Native.Nat.{ℕ, _+_, _*_, _≤_, _<_}
 use mathlib.Core.Path.{_≡_}
@@ -11,6 +12,7 @@ use Rattle.fields.specs.Fields.{View, restFrom, copies, has, val, wellFormed}
 use Rattle.card.specs.declared.Face.{Face}
 use Rattle.card.specs.declared.Card.{Card}
 use Rattle.card.specs.Layout.{mostHashes}
+use Rattle.card.specs.Values.{afterPurge, noKey, noLast}
 use Rattle.card.specs.Image.{decode}
 use Rattle.card.specs.Valid.{isCard}
 use Rattle.manual.specs.Words.{swNeedEncryption, swInvalidParams}
@@ -20,10 +22,11 @@ use Rattle.manual.specs.Request.{code, command, payload}
 use Rattle.manual.specs.Row.{Matched, Question, shaped, Row, Rule, rules}
 use Rattle.manual.specs.Commands.{row}
 use Rattle.manual.specs.Storage.{guarded, sentCounter}
-use Rattle.manual.specs.Settle.{State, Call, sentIn, matched}
-use Rattle.story.specs.Sums.{History, isDone, accepted, ins}
+use Rattle.manual.specs.Tags.{Signature}
+use Rattle.manual.specs.Settle.{State, holding, Call, sentIn, matched}
+use Rattle.story.specs.Sums.{Sheet, History, toldIn, isDone, accepted, ins, signedNew, wallets}
 use Rattle.story.specs.Buffers.{questions, response}
-use Rattle.history.specs.Demands.{AnyCard, settleStop, checkWord, isRefusal, imageBy}
+use Rattle.history.specs.Demands.{AnyCard, settleStop, checkWord, isRefusal, Event, tapped, tapBy, imageBy, left, played, Rightful}
 
 -- the image m′ after spells the card that m spelled, and is m itself where m is a card in bytes
 pub record Unchanged (m m′ : List ℕ) : Type 0 where
@@ -131,6 +134,40 @@ answersOf provider (x ∷ xs) = provider x ++ answersOf provider xs
 -- the k-th of equal parts, counted from 0
 abbrev pub nth : ℕ → ℕ → List ℕ → List ℕ
 nth size k l = take size (drop (k * size) l)
+
+-- what a purge takes of a card: Status, key, Remaining and the last signatures, their room zero; and what it leaves
+pub record Forgotten (c c′ : Card) : Type 0 where
+  pub state : c′ .face .front .wallet .status ≡ afterPurge (c .face .front .flags .reusable)
+  pub key : c′ .face .front .key ≡ noKey
+  pub remaining : c′ .face .front .wallet .remaining ≡ 0
+  pub last : c′ .face .last ≡ noLast
+  pub number : c′ .face .front .wallet .number ≡ c .face .front .wallet .number
+  pub signedHashes : c′ .face .front .wallet .signed ≡ c .face .front .wallet .signed
+  pub counters : c′ .face .front .counters ≡ c .face .front .counters
+  pub held : c′ .face .held ≡ c .face .held
+  pub fixed : c′ .face .front .fixed ≡ c .face .front .fixed
+  pub flags : c′ .face .front .flags ≡ c .face .front .flags
+  pub codes : c′ .codes ≡ c .codes
+
+-- THE SIGN THAT A REPEAT TELLS AGAIN. The state and the history that events leave, from an image on
+abbrev pub stateAfter : AnyCard → List ℕ → List Event → State
+stateAfter f m es = left f (holding m) es
+
+abbrev pub historyOf : AnyCard → List ℕ → List Event → History
+historyOf f m es = played f (holding m) [] es
+
+-- where events `past` were followed by es: among es stands the SIGN that newly made these signatures, rightfully, for the wallet that lives after them all
+pub record Original (f : AnyCard) (sh : Sheet) (m : List ℕ) (past es : List Event) (signatures : List ℕ) : Type 0 where
+  pub before : List Event
+  pub call : Call
+  pub after : List Event
+  pub whole : es ≡ before ++ (tapped call ∷ after)
+  pub signed : signedNew (tapBy f (stateAfter f m (past ++ before)) call) ≡ true
+  pub rightful :
+      Rightful sh (historyOf f m (past ++ before)) (tapBy f (stateAfter f m (past ++ before)) call) call
+      (questions (f .taps .ask (stateAfter f m (past ++ before)) call))
+  pub wallet : wallets (historyOf f m (past ++ before)) ≡ wallets (historyOf f m (past ++ es))
+  pub told : signatures ≡ val Signature (toldIn (tapBy f (stateAfter f m (past ++ before)) call .response))
 
 -- a note: WRITE_ISSUER_DATA with this counter, or one below it
 pub record NoteUpTo (n : ℕ) (i : Call) : Type 0 where

@@ -5,30 +5,21 @@ use mathlib.Core.Path.{_≡_, refl, ap, subst}
 use mathlib.Core.List.{List, [], _∷_, _++_}
 use mathlib.Core.Bool.{Bool, true, false, cond, _&&_}
 use lib.Dec.{eqb}
-use borrow.Author.Tests.{eqb-true}
 use Rattle.wire.proofs.Laws.{by-cases, both-true}
 use Rattle.card.specs.Layout.{top32}
 use Rattle.card.specs.Image.{decode}
 use Rattle.card.specs.Values.{afterPurge}
-use Rattle.manual.specs.declared.Command.{Command}
 use Rattle.manual.specs.declared.Command.the-variants.{CreateWallet, Sign, PurgeWallet}
-use Rattle.manual.specs.Request.{code}
 use Rattle.manual.specs.Wallet.{isNew, count}
-use Rattle.manual.specs.Settle.{State, holding, Call, sentIn}
-use Rattle.story.specs.Sums.{Sheet, Tap, History, accepted, ins, did, signedNew, status, since, newSigns, made, total}
-use Rattle.history.specs.Demands.{Event, tapped, tapBy, imageBy, left, played, Fresh, Kept}
-use Rattle.history.proofs.Choice.{clash}
+use Rattle.manual.specs.Settle.{holding, Call, sentIn}
+use Rattle.story.specs.Sums.{Sheet, Tap, History, did, signedNew, status, since, newSigns, made, total}
+use Rattle.history.specs.Demands.{Event, tapped, tapBy, left, played, Fresh, Kept}
+use Rattle.history.proofs.Choice.{clash, one-ins}
+use Rattle.history.proofs.Events.{played-more}
 use Rattle.history.proofs.Images.{model, model-demand3}
 use Rattle.sums.specs.declared.Sums.{Sums}
 use Rattle.sums.specs.Counted.{withWallet, withNone, withSigned, counted}
 use Rattle.recorded.specs.Facts.{sumsOf}
-
--- an accepted command has one INS
-one-ins : (t : Tap) (j k : Command) → eqb (code j) (code k) ≡ false → did j t ≡ true → did k t ≡ false
-one-ins t j k n e =
-    let z = both-true (accepted (t .response)) (eqb (ins (t .request)) (code j)) e in
-    let w : ins (t .request) ≡ code j = eqb-true _ _ (z .1) in
-    rw (z .0, w) n
 
 signs-none : (t : Tap) → did Sign t ≡ false → signedNew t ≡ false
 signs-none t e = ap (λ b. b && isNew (sentIn (t .request))) e
@@ -72,17 +63,6 @@ counted-more sh h t z =
     (λ e. signs-none t (one-ins t PurgeWallet Sign refl e))
     z)
 
--- the history and the image after one call more
-pub played-more :
-    (m : State) (h : History) (es : List Event) (i : Call)
-    → played model m h (es ++ (tapped i ∷ [])) ≡ tapBy model (left model m es) i ∷ played model m h es
-played-more m h [] i = refl
-played-more m h (tapped j ∷ es) i = played-more (holding (imageBy model m j)) (tapBy model m j ∷ h) es i
-
-pub left-more : (m : State) (es : List Event) (i : Call) → left model m (es ++ (tapped i ∷ [])) ≡ holding (imageBy model (left model m es) i)
-left-more m [] i = refl
-left-more m (tapped j ∷ es) i = left-more (holding (imageBy model m j)) es i
-
 -- THE SUMS FIT after one call more, on a card that began fresh: demand 3 has new hashes below 2^32, and new SIGNs, on a live wallet, within its maximum
 pub sums-fit :
     (sh : Sheet) (m : List ℕ) → Fresh sh m → sh .fixed .max ≤ top32 → (es : List Event) (i : Call)
@@ -92,7 +72,8 @@ sums-fit sh m e x es i z =
     let h : History = played model (holding m) [] es in
     let t : Tap = tapBy model (left model (holding m) es) i in
     let c = decode (left model (holding m) (es ++ (tapped i ∷ [])) .image) in
-    let k : Kept sh (t ∷ h) c = subst (λ (h : History). Kept sh h c) (played-more (holding m) [] es i) (model-demand3 .kept sh m e (es ++ (tapped i ∷ []))) in
+    let k : Kept sh (t ∷ h) c =
+    subst (λ (h : History). Kept sh h c) (played-more model (holding m) [] es (tapped i)) (model-demand3 .kept sh m e (es ++ (tapped i ∷ []))) in
     let d = both-true (did Sign t) (isNew (sentIn (i .request))) z .0 in
     let a : did CreateWallet t ≡ false = one-ins t Sign CreateWallet refl d in
     let b : did PurgeWallet t ≡ false = one-ins t Sign PurgeWallet refl d in

@@ -26,6 +26,7 @@ use Rattle.story.specs.Buffers.{response}
 use Rattle.history.specs.Demands.{AnyCard, Demand2, Event, tapped, imageBy, left, played, Fresh, Kept}
 use Rattle.history.specs.Facts.{Unchanged}
 use Rattle.history.proofs.Choice.{clash}
+use Rattle.history.proofs.Events.{played-more, left-more}
 use Rattle.history.proofs.Images.{model, model-demand2, model-demand3}
 use Rattle.history.proofs.Theorems.{every, card-stays, refusal-keeps}
 use Rattle.tapline.specs.Line.{Recorded}
@@ -34,7 +35,7 @@ use Rattle.printing.specs.Printing.{sumsText}
 use Rattle.recording.specs.Recording.{tapsOf}
 use Rattle.recording.specs.Play.{callOf, settledFor, Played, begun, afterTap, afterTaps, tapsText, endText, playText, printed}
 use Rattle.recorded.specs.Facts.{events, sheetOf, sumsOf}
-use Rattle.recorded.proofs.Counted.{counted-more, played-more, left-more, sums-fit}
+use Rattle.recorded.proofs.Counted.{counted-more, sums-fit}
 
 -- A TAP is a call of settle, on any card that meets demand 2
 module _ (f : AnyCard) (h : Demand2 f) where
@@ -97,8 +98,8 @@ module _ (sh : Sheet) (m : List ℕ) (e : Fresh sh m) (x : sh .fixed .max ≤ to
   over-one : (n : ℕ) (es : List Event) (t : Recorded) → afterTap (over n es) t ≡ over (suc n) (es ++ (tapped (callOf t) ∷ []))
   over-one n es t =
       let i : Call = callOf t in
-      let s = counted-more sh (played model (holding m) [] es) _ (sums-fit sh m e x es i) ∙ ap (sumsOf sh) (sym (played-more (holding m) [] es i)) in
-      λ j. record { taps = suc n; sums = s j; image = sym (left-more (holding m) es i) j .image }
+      let s = counted-more sh (played model (holding m) [] es) _ (sums-fit sh m e x es i) ∙ ap (sumsOf sh) (sym (played-more model (holding m) [] es (tapped i))) in
+      λ j. record { taps = suc n; sums = s j; image = sym (left-more model (holding m) es (tapped i)) j .image }
 
   over-all : (n : ℕ) (es : List Event) (ts : List Recorded) → afterTaps (over n es) ts .sums ≡ sumsOf sh (played model (holding m) [] (es ++ events ts))
   unfolding afterTaps
