@@ -1,7 +1,10 @@
 /* The image's values, each with its name and its form for a person. */
 #include "image.h"
 
+#include <string.h>
+
 #include "practice.h"
+#include "provider.h"
 
 static const struct {
     const char *name;
@@ -43,16 +46,36 @@ image_value image_get(const uint8_t *image, practice_view_name name)
     return (image_value){rows[name].name, rows[name].form, value.bytes, value.length};
 }
 
-/* Any request will do to ask whether an image is a card: that is looked at first, and ask changes nothing. */
-complaint image_is_card(const uint8_t *image, size_t length)
+/* Any request will do: whether the image is a card is looked at first, and ask changes nothing. */
+static int is_card(const uint8_t *image, size_t length)
 {
     static uint8_t questions[PRACTICE_ROOM];
     static const uint8_t request[1], draw[PRACTICE_DRAW];
-    if (practice_view_length() != practice_image_length())
-        return complain("the library's image has %u bytes, host/link/practice_view.c knows one of %u", practice_image_length(),
-                        practice_view_length());
-    practice_result asked = practice_ask(image, length, request, sizeof request, draw, sizeof draw, questions, sizeof questions);
-    if (asked.number == PRACTICE_NO_CARD)
-        return complain("is no card (%zu bytes; an image has %u)", length, practice_image_length());
-    return NULL;
+    return practice_ask(image, length, request, sizeof request, draw, sizeof draw, questions, sizeof questions).number != PRACTICE_NO_CARD;
+}
+
+/* Of an image that is no card: whether it would be one without the last signatures, and they are as many as their count says. Then all
+ * that is wrong is that no wallet is there beside them. */
+static int lacks_wallet_alone(const uint8_t *image)
+{
+    uint8_t without[PRACTICE_IMAGE_ROOM];
+    practice_bytes held = practice_view(image, PRACTICE_VIEW_LAST_SIGNATURES);
+    uint8_t *count = without + (held.bytes - image) - 1; /* it stands before them */
+    memcpy(without, image, practice_image_length());
+    if ((uint32_t)*count * PROVIDER_SIGNATURE != held.length)
+        return 0;
+    memset(count, 0, 1 + held.length);
+    return is_card(without, practice_image_length());
+}
+
+complaint image_is_card(const uint8_t *image, size_t length)
+{
+    uint32_t wanted = practice_image_length();
+    if (practice_view_length() != wanted)
+        return complain("the library's image has %u bytes, host/link/practice_view.c knows one of %u", wanted, practice_view_length());
+    if (is_card(image, length))
+        return NULL;
+    if (length == wanted && lacks_wallet_alone(image))
+        return complain("holds signatures and no wallet, as no card does any more; 'tap new SHEET CARD' makes a fresh one from its sheet");
+    return complain("is no card (%zu bytes; an image has %u)", length, wanted);
 }
