@@ -163,7 +163,8 @@ def bad_images():
     image = Card.from_sheet(SHEET, MadeUp()).image
     no_card = "the image is no card (docs/IMAGE.md)"
     for words, wrong in (("none", b""), ("one byte short", image[:-1]), ("one byte long", image + b"\0"), ("long", bytes(100_000)),
-                         ("Status 0", image[:87] + b"\0" + image[88:]), ("zeros", bytes(len(image)))):
+                         ("Status 0", image[:87] + b"\0" + image[88:]), ("zeros", bytes(len(image))),
+                         ("signatures and no wallet", image[:1788] + b"\1" + b"s" * 64 + image[1853:])):
         same(named(f"an image, {words}"), raised(NotACard, Card.from_image, wrong, MadeUp()), no_card)
     same(named("an image of text"), raised(TypeError, Card.from_image, "card", MadeUp()), "an image is to be bytes, not str")
 

@@ -31,7 +31,9 @@ fn what_is_no_card_is_none() {
     assert!(Card::from_image(&image, MadeUp::default()).is_ok());
     let mut status = image.clone();
     status[87] = 0;
-    for wrong in [&[][..], &image[1..], &status, &[0; 2429], &[0; 100_000]] {
+    let mut signatures_and_no_wallet = image.clone();
+    signatures_and_no_wallet[1788..1853].fill(1);
+    for wrong in [&[][..], &image[1..], &status, &signatures_and_no_wallet, &[0; 2429], &[0; 100_000]] {
         assert_eq!(Card::from_image(wrong, MadeUp::default()).err(), Some(Error::NotACard));
     }
 }
