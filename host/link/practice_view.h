@@ -43,7 +43,7 @@ typedef enum {
     PRACTICE_VIEW_ISSUER_DATA,
     PRACTICE_VIEW_ISSUER_DATA_SIGNATURE, /* zeros where no Issuer_Data is held */
     PRACTICE_VIEW_ISSUER_DATA_COUNTER,
-    PRACTICE_VIEW_LAST_SIGNATURES, /* 64 bytes each, one after the other */
+    PRACTICE_VIEW_LAST_SIGNATURES, /* 64 bytes each, one after the other; no bytes where there is no wallet */
     PRACTICE_VIEW_VALUES           /* how many there are */
 } practice_view_name;
 

@@ -157,7 +157,7 @@ impl<'a> View<'a> {
         self.number(1784, 4)
     }
 
-    /// 64 bytes each.
+    /// 64 bytes each; none without a wallet.
     pub fn last_signatures(self) -> &'a [u8] {
         self.counted(1788, 1, 64)
     }
