@@ -9,9 +9,8 @@ use card::Wallet;
 use card::layout;
 ghost use mathlib.Core.Path.{_≡_};
 ghost use mathlib.Core.Bool.{cond};
-ghost use Prim.Native.Nat.{ℕ};
-ghost use mathlib.Core.List.{List};
 ghost use lib.Dec.{eqb};
+ghost use Rattle.card.specs.declared.Fixed.{Fixed};
 ghost use Rattle.card.specs.Image.{decode, decWallet, decKey, decBlock, decIssuer, decLast, decHeld, decFront};
 ghost use Rattle.card.specs.Valid.{keySize, okFlags, okRanges, okState, okKey, okBlock, okIssuer, okLast, lastOwned, okFront, okHeld, okFace};
 
@@ -29,7 +28,7 @@ fn flags_ok(x: Flags) -> bool
 
 // Curve, Max_Signatures and Status are known ones; Remaining is at most Max, and 0 unless Loaded.
 fn ranges_ok(curve: u8, max: u32, w: Wallet) -> bool
-    ensures { λ r. ⌜ ((cid cvc : List ℕ) → r ≡ okRanges (record { cid = cid; cvc = cvc; curve = curve; max = max }) w) ⌝ }
+    ensures { λ r. ⌜ ((x : Fixed) → x .curve ≡ curve → x .max ≡ max → r ≡ okRanges x w) ⌝ }
 {
     let known = wire::either(curve == Fixed::SECP256K1, curve == Fixed::ED25519);
     let begun = wire::either(w.status == Wallet::LOADED, w.status == Wallet::PURGED);

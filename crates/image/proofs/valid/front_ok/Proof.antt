@@ -1,4 +1,4 @@
-use mathlib.Core.Path.{ap, ap₂, _∙_}
+use mathlib.Core.Path.{sym, ap, ap₂, _∙_}
 use Rattle.card.specs.Image.{decKey, decode}
 use Rattle.card.specs.Valid.{okFlags, okRanges, okState, okKey, okFront}
 use Rattle.image.proofs.Laws.{both-of}
@@ -51,8 +51,7 @@ returns c =
     let fixed = decode l .face .front .fixed in
     both-of (c .both3 .ensures) (c .before .before .flags-ok .ensures ∙ ap okFlags flags)
     (both-of (c .before .both2 .ensures)
-    (r .ranges-ok .ensures (fixed .cid) (fixed .cvc)
-    ∙ (λ i. okRanges (record { cid = fixed .cid; cvc = fixed .cvc; curve = curve i; max = r .before .max .ensures i }) (wallet i)))
+    (r .ranges-ok .ensures fixed (sym curve) (sym (r .before .max .ensures)) ∙ ap (okRanges fixed) wallet)
     (both-of (r .before .before .both .ensures) (r .before .before .before .state-ok .ensures ∙ ap₂ okState flags wallet)
     (k .key-ok .ensures ∙ (λ i. okKey (curve i) (wallet i .status) (decKey l)))))
 

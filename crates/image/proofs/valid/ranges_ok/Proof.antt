@@ -39,11 +39,12 @@ returns c =
     let begun = status .before .before in
     let known = begun .before .before .before in
     let a = known .before .args in
-    λ cid cvc.
-    both-of (c .both4 .ensures) (known .either .ensures)
+    λ x p q.
+    rw (p, q)
+    (both-of (c .both4 .ensures) (known .either .ensures)
     (both-and (leb 1 (a .max)) (b3 .both3 .ensures)
     (both-of (b2 .both2 .ensures) (either-or (eqb (a .w .status) 1) (status .either3 .ensures) (begun .either2 .ensures))
-    (both-and (leb (a .w .remaining) (a .max)) (b1 .both .ensures) (idle .either4 .ensures))))
+    (both-and (leb (a .w .remaining) (a .max)) (b1 .both .ensures) (idle .either4 .ensures)))))
 
 pub ranges-ok-spec : {M : Type 1} → statement M
 ranges-ok-spec =
