@@ -149,7 +149,8 @@ fn purged(img: &[u8], next: &mut [u8])
     let wallet = image::wallet(img);
     let flags = image::flags(img);
     writing::anew::wallet(next, wallet.purge(flags.reusable));
-    writing::anew::key(next, wire::part(img, layout::KEY_AT + 1, 0));
+    let key = image::key(img);
+    writing::anew::key(next, wire::part(key, 0, 0));
     let last = image::last(img);
     writing::anew::last(next, wire::part(last, 0, 0));
 }

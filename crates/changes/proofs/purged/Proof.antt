@@ -18,14 +18,14 @@ purge-requires c κs = tt
 wallet-requires-2 : tie.Need-wallet-requires-2
 wallet-requires-2 c κs = tt
 
-add-part : tie.Need-add-part
-add-part c = search needs
+key-requires : tie.Need-key-requires
+key-requires c κs = tt
 
 part-requires : tie.Need-part-requires
 part-requires c κs = tt
 
-key-requires : tie.Need-key-requires
-key-requires c κs = tt
+key-requires-2 : tie.Need-key-requires-2
+key-requires-2 c κs = tt
 
 last-requires : tie.Need-last-requires
 last-requires c κs = tt
@@ -45,12 +45,12 @@ returns c =
     let c2 = c1 .before in
     let c3 = c2 .before .before .before .before .before in
     let c4 = c3 .before in
-    let c5 = c4 .before .before .before .before in
+    let c5 = c4 .before .before .before .before .before in
     let c6 = c5 .before in
     let c7 = c6 .before .before in
     λ rest h.
     anew-last [] (rw (c2 .part2 .ensures ∙ part-none _ _) at (c1 .last2 .ensures))
-    (anew-key [] (rw (c4 .part .ensures ∙ part-none _ _) at (c3 .key .ensures))
+    (anew-key [] (rw (c4 .part .ensures ∙ part-none _ _) at (c3 .key2 .ensures))
     (anew-wallet _ (rw (c6 .purge .ensures, c7 .flags .ensures, c7 .before .wallet .ensures) at (c5 .wallet2 .ensures)) h))
 
 pub purged-spec : {M : Type 1} → statement M
@@ -61,9 +61,9 @@ purged-spec =
     flags-requires
     purge-requires
     wallet-requires-2
-    add-part
-    part-requires
     key-requires
+    part-requires
+    key-requires-2
     last-requires
     part-requires-2
     last-requires-2
