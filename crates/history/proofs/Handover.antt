@@ -24,7 +24,7 @@ use Rattle.manual.specs.Settle.{State, holding, Call, sentIn, saidTo}
 use Rattle.story.specs.Sums.{Sheet, Tap, History, tap, toldIn, accepted, did, signedNew, wallets, status, made}
 use Rattle.story.specs.Buffers.{questions, response, image}
 use Rattle.history.specs.Demands.{AnyCard, Demand2, given, Event, tapped, tapBy, imageBy, Fresh, Demand3}
-use Rattle.history.specs.Facts.{Forgotten, answersOf, nth, stateAfter, historyOf, Original}
+use Rattle.history.specs.Facts.{Forgotten, answersOf, nth, stateAfter, historyOf, Made, Original}
 use Rattle.history.proofs.Choice.{both-true, clash, one-ins, did-purge}
 use Rattle.history.proofs.Events.{played-more, one-by-one}
 use Rattle.history.proofs.Wallet.{not-two}
@@ -97,17 +97,8 @@ module _ (f : AnyCard) (sh : Sheet) (m : List ℕ) (past : List Event) where
   abbrev H : List Event → History
   H es = historyOf f m (past ++ es)
 
-  record Source (es : List Event) : Type 0 where
-    before : List Event
-    call : Call
-    after : List Event
-    whole : es ≡ before ++ (tapped call ∷ after)
-    signed : signedNew (tapBy f (S before) call) ≡ true
-    wallet : wallets (H before) ≡ wallets (H es)
-    gives : given (H es) ≡ val Signature (toldIn (tapBy f (S before) call .response))
-
   abbrev Sourced : List Event → Type 0
-  Sourced es = status sh (H es) ≡ 2 → 1 ≤ made (H es) → Source es
+  Sourced es = status sh (H es) ≡ 2 → 1 ≤ made (H es) → Made f m past es (given (H es))
 
   one-tap-more : (es : List Event) (i : Call) → H (es ++ (tapped i ∷ [])) ≡ tapBy f (S es) i ∷ H es
   one-tap-more es i = ap (historyOf f m) (sym (append-assoc past es (tapped i ∷ []))) ∙ played-more f (holding m) [] (past ++ es) (tapped i)
@@ -121,7 +112,7 @@ module _ (f : AnyCard) (sh : Sheet) (m : List ℕ) (past : List Event) where
       more : H (es ++ (tapped i ∷ [])) ≡ t ∷ H es
       more = one-tap-more es i
 
-      go : (b : Bool) → signedNew t ≡ b → Source (es ++ (tapped i ∷ []))
+      go : (b : Bool) → signedNew t ≡ b → Made f m past (es ++ (tapped i ∷ [])) (given (H (es ++ (tapped i ∷ []))))
       go true e =
           let y = made-now t (H es) e in
           record {
@@ -131,7 +122,7 @@ module _ (f : AnyCard) (sh : Sheet) (m : List ℕ) (past : List Event) where
             whole = refl;
             signed = e;
             wallet = sym (ap wallets more ∙ y .0);
-            gives = ap given more ∙ y .1;
+            told = ap given more ∙ y .1;
           }
       go false e =
           let y = as-before sh t (H es) (ap (status sh) (sym more) ∙ s) (subst (λ h. 1 ≤ made h) more n) e in
@@ -143,7 +134,7 @@ module _ (f : AnyCard) (sh : Sheet) (m : List ℕ) (past : List Event) where
             whole = ap (λ l. l ++ (tapped i ∷ [])) (z .whole) ∙ append-assoc (z .before) (tapped (z .call) ∷ z .after) (tapped i ∷ []);
             signed = z .signed;
             wallet = z .wallet ∙ sym (ap wallets more ∙ y .wallet);
-            gives = ap given more ∙ (y .given ∙ z .gives);
+            told = ap given more ∙ (y .given ∙ z .told);
           }
 
   sourced : (status sh (H []) ≡ 2 → ⊥) → (es : List Event) → Sourced es
@@ -158,16 +149,7 @@ module _ (f : AnyCard) (d : Demand3 f) (sh : Sheet) (m : List ℕ) (o : Fresh sh
   original past es i none e n =
       let y = d .next sh m o (past ++ es) i .repeats e n in
       let z = sourced f sh m past none es (y .isDue .state) (y .some) in
-      record {
-        before = z .before;
-        call = z .call;
-        after = z .after;
-        whole = z .whole;
-        signed = z .signed;
-        rightful = d .next sh m o (past ++ z .before) (z .call) .signs (z .signed);
-        wallet = z .wallet;
-        told = y .told ∙ z .gives;
-      }
+      record { told = y .told; made = z; rightful = d .next sh m o (past ++ z .before) (z .call) .signs (z .signed) }
 
   -- EVERY REPEAT tells what a SIGN of this history newly made for the live wallet
   pub repeat-is-own :
@@ -189,15 +171,15 @@ module _ (f : AnyCard) (d : Demand3 f) (sh : Sheet) (m : List ℕ) (o : Fresh sh
   -- and signature k of them is the provider's answer to the question that names the live wallet's number and hash k of that SIGN
   pub repeated-hash :
       {past es : List Event} {signatures : List ℕ} (x : Original f sh m past es signatures) (provider : Question → List ℕ)
-      → ((y : Question) → length (provider y) ≡ signatureSize) → questionsRoom ≤ length (x .call .buffers .page)
-      → ((these : List Question) → questions (f .taps .ask (stateAfter f m (past ++ x .before)) (x .call)) ≡ asked these
-      → x .call .answers ≡ answersOf provider these)
-      → (k : ℕ) → k < count (sentIn (x .call .request))
+      → ((y : Question) → length (provider y) ≡ signatureSize) → questionsRoom ≤ length (x .made .call .buffers .page)
+      → ((these : List Question) → questions (f .taps .ask (stateAfter f m (past ++ x .made .before)) (x .made .call)) ≡ asked these
+      → x .made .call .answers ≡ answersOf provider these)
+      → (k : ℕ) → k < count (sentIn (x .made .call .request))
       → nth signatureSize k signatures
       ≡ provider
-      (question 2 (wallets (historyOf f m (past ++ es))) (sh .fixed .curve) (nth hashSize k (val TransactionHash (sentIn (x .call .request))) ∷ []))
+      (question 2 (wallets (historyOf f m (past ++ es))) (sh .fixed .curve) (nth hashSize k (val TransactionHash (sentIn (x .made .call .request))) ∷ []))
   repeated-hash {past} {es} {signatures} x provider s l a k u =
-      let v = val TransactionHash (sentIn (x .call .request)) in
-      ap (nth signatureSize k) (x .told)
-      ∙ signature-of-hash f d sh m o (past ++ x .before) (x .call) provider s (x .signed) l a k u
-      ∙ ap (λ n. provider (question 2 n (sh .fixed .curve) (nth hashSize k v ∷ []))) (x .wallet)
+      let v = val TransactionHash (sentIn (x .made .call .request)) in
+      ap (nth signatureSize k) (x .told ∙ x .made .told)
+      ∙ signature-of-hash f d sh m o (past ++ x .made .before) (x .made .call) provider s (x .made .signed) l a k u
+      ∙ ap (λ n. provider (question 2 n (sh .fixed .curve) (nth hashSize k v ∷ []))) (x .made .wallet)

@@ -124,7 +124,7 @@ story = creates ∷ ask0 ReadCard [] (1 ∷ []) ∷ signs 5 5 ∷ repeats ∷ pu
 abbrev lived : History
 lived = played model (holding image0) [] (tapsOf story)
 
--- up to the purge
+-- up to the purge, without the stray answer
 abbrev signed : History
 signed = played model (holding image0) [] (tapsOf (creates ∷ signs 5 5 ∷ repeats ∷ []))
 

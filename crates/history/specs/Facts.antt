@@ -26,7 +26,7 @@ use Rattle.manual.specs.Tags.{Signature}
 use Rattle.manual.specs.Settle.{State, holding, Call, sentIn, matched}
 use Rattle.story.specs.Sums.{Sheet, History, toldIn, isDone, accepted, ins, signedNew, wallets}
 use Rattle.story.specs.Buffers.{questions, response}
-use Rattle.history.specs.Demands.{AnyCard, settleStop, checkWord, isRefusal, Event, tapped, tapBy, imageBy, left, played, Rightful}
+use Rattle.history.specs.Demands.{AnyCard, settleStop, checkWord, isRefusal, Event, tapped, tapBy, imageBy, left, played, given, Rightful}
 
 -- the image m′ after spells the card that m spelled, and is m itself where m is a card in bytes
 pub record Unchanged (m m′ : List ℕ) : Type 0 where
@@ -156,18 +156,23 @@ stateAfter f m es = left f (holding m) es
 abbrev pub historyOf : AnyCard → List ℕ → List Event → History
 historyOf f m es = played f (holding m) [] es
 
--- where events `past` were followed by es: among es stands the SIGN that newly made these signatures, rightfully, for the wallet that lives after them all
-pub record Original (f : AnyCard) (sh : Sheet) (m : List ℕ) (past es : List Event) (signatures : List ℕ) : Type 0 where
+-- where events `past` were followed by es: among es stands the SIGN that newly made these signatures, for the wallet that lives after them all
+pub record Made (f : AnyCard) (m : List ℕ) (past es : List Event) (signatures : List ℕ) : Type 0 where
   pub before : List Event
   pub call : Call
   pub after : List Event
   pub whole : es ≡ before ++ (tapped call ∷ after)
   pub signed : signedNew (tapBy f (stateAfter f m (past ++ before)) call) ≡ true
-  pub rightful :
-      Rightful sh (historyOf f m (past ++ before)) (tapBy f (stateAfter f m (past ++ before)) call) call
-      (questions (f .taps .ask (stateAfter f m (past ++ before)) call))
   pub wallet : wallets (historyOf f m (past ++ before)) ≡ wallets (historyOf f m (past ++ es))
   pub told : signatures ≡ val Signature (toldIn (tapBy f (stateAfter f m (past ++ before)) call .response))
+
+-- and rightfully; what is told again is what was newly given last
+pub record Original (f : AnyCard) (sh : Sheet) (m : List ℕ) (past es : List Event) (signatures : List ℕ) : Type 0 where
+  pub told : signatures ≡ given (historyOf f m (past ++ es))
+  pub made : Made f m past es (given (historyOf f m (past ++ es)))
+  pub rightful :
+      Rightful sh (historyOf f m (past ++ made .before)) (tapBy f (stateAfter f m (past ++ made .before)) (made .call)) (made .call)
+      (questions (f .taps .ask (stateAfter f m (past ++ made .before)) (made .call)))
 
 -- a note: WRITE_ISSUER_DATA with this counter, or one below it
 pub record NoteUpTo (n : ℕ) (i : Call) : Type 0 where
