@@ -194,7 +194,7 @@ module _ (P : Said → List Question → Type 0) (m : Matched) (f : Face) (q d a
       ((n w : ℕ) → isRefusal n w ≡ true → isDone w ≡ false → P (refused n w f) [])
       → (Passed r m f v → shaped (r .questions f v d) a ≡ false → P (silent 4 f) (r .questions f v d))
       → (Passed r m f v → P (refused 13 swErrorProcessingCommand f) (r .questions f v d))
-      → (Passed r m f v → shaped (r .questions f v d) a ≡ true → P (done r m f v d a) (r .questions f v d))
+      → (Passed r m f v → shaped (r .questions f v d) a ≡ true → r .confirmed a ≡ true → P (done r m f v d a) (r .questions f v d))
       → P (said m f q d a) (questionsOf (judged m f q) f q d)
   unfolding said judgedBy answered
   by-outcome no-way four thirteen yes-way =
@@ -202,7 +202,7 @@ module _ (P : Said → List Question → Type 0) (m : Matched) (f : Face) (q d a
       (λ n w x e _. no-way n w x e)
       (λ h.
       by-cases (λ z. P z (r .questions f v d)) (shaped (r .questions f v d) a)
-      (λ e. by-cases (λ z. P z (r .questions f v d)) (r .confirmed a) (λ g. yes-way (named r m f q h) e) (λ g. thirteen (named r m f q h)))
+      (λ e. by-cases (λ z. P z (r .questions f v d)) (r .confirmed a) (λ g. yes-way (named r m f q h) e g) (λ g. thirteen (named r m f q h)))
       (λ e. four (named r m f q h) e))
 
   -- the same, where number 4 and check 13 need not be told apart
@@ -216,12 +216,13 @@ module _ (P : Said → List Question → Type 0) (m : Matched) (f : Face) (q d a
       (λ n w _ e. no-way n w (refused-same f n w e))
       (λ h _. stuck h (silent 4 f) (silent-same f))
       (λ h. stuck h (refused 13 swErrorProcessingCommand f) (refused-same f 13 swErrorProcessingCommand refl))
-      yes-way
+      (λ h e _. yes-way h e)
 
 -- what is accepted was carried out
 pub record Carried (r : Row) (m : Matched) (f : Face) (v : View) (d a : List ℕ) (s : Said) (x : List Question) : Type 0 where
   pub passed : Passed r m f v
   pub shape : shaped (r .questions f v d) a ≡ true
+  pub yes : r .confirmed a ≡ true
   pub isDone : s ≡ done r m f v d a
   pub isAsked : x ≡ r .questions f v d
 
@@ -229,10 +230,11 @@ pub carried :
     (m : Matched) (f : Face) (q d a : List ℕ) → accepted (said m f q d a .response) ≡ true
     → Carried (row (command q)) m f (sentIn q) d a (said m f q d a) (questionsOf (judged m f q) f q d)
 carried m f q d a =
-    by-tap (λ s x. accepted (s .response) ≡ true → Carried (row (command q)) m f (sentIn q) d a s x) m f q d a
-    (λ n w k e. clash e (k .answer))
-    (λ h s k e. clash e (k .answer))
-    (λ h g e. record { passed = h; shape = g; isDone = refl; isAsked = refl })
+    by-outcome (λ s x. accepted (s .response) ≡ true → Carried (row (command q)) m f (sentIn q) d a s x) m f q d a
+    (λ n w _ k e. clash e (refused-same f n w k .answer))
+    (λ h _ e. clash e (silent-same f .answer))
+    (λ h e. clash e (refused-same f 13 swErrorProcessingCommand refl .answer))
+    (λ h g y e. record { passed = h; shape = g; yes = y; isDone = refl; isAsked = refl })
 
 -- and its INS is listed
 pub lists :

@@ -139,7 +139,7 @@ module _ (m : State) (i : Call) (o : isCard (m .image) ≡ true) (b : Bytes (m .
       (λ n w e _. refuses n w (rw e refl))
       (λ _ _. shapeless refl)
       (λ _. refuses 13 swErrorProcessingCommand refl)
-      (λ h g. carries h g)
+      (λ h g _. carries h g)
 
 model-demand1 : Demand1 model
 unfolding askedFor settled

@@ -52,7 +52,7 @@ settled-fine m i =
     (λ _ _ _ _. refl)
     (λ _ _. refl)
     (λ _. refl)
-    (λ _ _. refl)
+    (λ _ _ _. refl)
 
 -- NUMBERS 1 TO 3 are for what is no card, for small buffers and for other draws, so a tap on a card meets none of them
 pub number-0-or-4 :
