@@ -33,7 +33,7 @@ pub record Reports (f : Watched) (fs : List Tagged) : Type 0 where
 
 -- the stored counter of a protected card never falls
 pub record Climbs (f g : Face) : Type 0 where
-  pub flags : g .front .flags ≡ f .front .flags
+  pub replay : g .front .flags .replay ≡ f .front .flags .replay
   pub counter : f .held .issuer .counter ≤ g .held .issuer .counter
 
 -- k, asked for by q on a card with face f, with draw d and answers a
@@ -114,5 +114,5 @@ module _ (n : Needs) (s : ℕ) (e : allowed n s ≡ true) where
   unfolding allowed
   not-purged x z = clash (rw z at e) x
 
-pub same : {f g : Face} → g .front .flags ≡ f .front .flags → g .held .issuer ≡ f .held .issuer → Climbs f g
-same {f} {g} e i = record { flags = e; counter = omega (arith, ap (λ x. x .counter) i) }
+pub same : {f g : Face} → g .front .flags .replay ≡ f .front .flags .replay → g .held .issuer ≡ f .held .issuer → Climbs f g
+same {f} {g} e i = record { replay = e; counter = omega (arith, ap (λ x. x .counter) i) }

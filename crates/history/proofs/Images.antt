@@ -224,6 +224,8 @@ model-demand3 =
       kept = λ sh m e es.
           let i = fits-all sh (holding m) [] es (fits-fresh sh m e) .inv in
           record {
+            fixed = i .fixed;
+            flags = i .flags;
             state = i .status;
             number = i .number;
             inForce = i .codes;

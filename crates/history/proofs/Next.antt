@@ -140,12 +140,12 @@ module _ (sh : Sheet) (c : Card) (h : History) (i : Fits sh c h) (t : Call) wher
   entitled j wanted secret awake two three s p =
       let z = i .inv in
       record {
-        activated = sym (z .active) ∙ eqb-true (f .front .flags .active) 1 (or-false (j .needs .asleep) _ (p .awake) awake);
+        activated = sym (ap (λ g. g .active) (z .flags)) ∙ eqb-true (f .front .flags .active) 1 (or-false (j .needs .asleep) _ (p .awake) awake);
         state = sym (z .status) ∙ s;
         pin1 = rw (← z .codes) (p .pin1);
         pin2 = λ e. rw (← z .codes) (or-false (not (j .pin2 v)) (m .pin2) (p .pin2) (ap not (two e)));
         cvc = λ e u.
-            let w : asksCvc j f ≡ true = rw (three e, z .usecvc ∙ u) refl in
+            let w : asksCvc j f ≡ true = rw (three e, ap (λ g. g .usecvc) (z .flags) ∙ u) refl in
             rw (← z .fixed) (or-false (not (asksCvc j f)) (holds CVC v (f .front .fixed .cvc)) (p .cvc) (ap not w));
       }
 

@@ -154,14 +154,14 @@ climbs-call m i g =
     (λ o _ _. rw (image-is m i o) (climbs-tap (decode (m .image)) (i .request) (i .draw) (i .answers) g))
 
 still-protected : {f g : Face} → Climbs f g → guarded f ≡ true → guarded g ≡ true
-still-protected x g = ap (λ z. eqb (z .replay) 1) (x .flags) ∙ g
+still-protected x g = ap (λ n. eqb n 1) (x .replay) ∙ g
 
 climbs-all : (m : State) (es : List Event) → protected (m .image) ≡ true → Climbs (decode (m .image) .face) (decode (left model m es .image) .face)
 climbs-all m [] g = same refl refl
 climbs-all m (tapped i ∷ es) g =
     let x = climbs-call m i g in
     let y = climbs-all (holding (imageBy model m i)) es (still-protected x g) in
-    record { flags = y .flags ∙ x .flags; counter = omega (arith, x .counter, y .counter) }
+    record { replay = y .replay ∙ x .replay; counter = omega (arith, x .counter, y .counter) }
 
 -- A NOTE THAT WAS ACCEPTED: its counter is stored
 stored-card :

@@ -14,7 +14,7 @@ use Rattle.card.specs.declared.Face.{Face}
 use Rattle.card.specs.Layout.{top32}
 use Rattle.card.specs.Values.{lastOf, fresh}
 use Rattle.story.specs.Sums.{Sheet, Tap, History, accepted, active, wallets, status, everPurged, made, total, codes}
-use Rattle.history.specs.Demands.{given}
+use Rattle.history.specs.Demands.{flagsBy, given}
 use Rattle.history.proofs.Choice.{clash}
 
 pub record Seen : Type 0 where
@@ -57,9 +57,7 @@ watch f = record { fixed = f .front .fixed; flags = f .front .flags; wallet = f 
 -- THE INVARIANT: what is watched of the card, its codes, and what its history shows
 pub record Inv (sh : Sheet) (f : Watched) (x : Codes) (s : Seen) : Type 0 where
   pub fixed : f .fixed ≡ sh .fixed
-  pub active : f .flags .active ≡ s .active
-  pub reusable : f .flags .reusable ≡ sh .flags .reusable
-  pub usecvc : f .flags .usecvc ≡ sh .flags .usecvc
+  pub flags : f .flags ≡ flagsBy (s .active) (sh .flags)
   pub codes : x ≡ s .codes
   pub status : f .wallet .status ≡ s .status
   pub number : f .wallet .number ≡ s .number
@@ -76,9 +74,7 @@ module _ (sh : Sheet) where
   at-first =
       record {
         fixed = refl;
-        active = refl;
-        reusable = refl;
-        usecvc = refl;
+        flags = refl;
         codes = refl;
         status = refl;
         number = refl;

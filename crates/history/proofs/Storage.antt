@@ -91,7 +91,7 @@ module _ (m : Matched) (f : Face) (q d a : List ℕ) where
             ok-issuer f o (heldIssuer (val IssuerData v) (val IssuerDataSignature v) (keptCounter f v))
             (held-issuer-ok (val IssuerData v) (val IssuerDataSignature v) (keptCounter f v) (n .least) (n .most));
         alive = λ u e. clash u refl;
-        climbs = λ g. record { flags = refl; counter = let e : keptCounter f v ≡ sentCounter v = rw g in omega (arith, above m f v p g) };
+        climbs = λ g. record { replay = refl; counter = let e : keptCounter f v ≡ sentCounter v = rw g in omega (arith, above m f v p g) };
       }
 
   pub of-readIssuerData : Passed readIssuerData m f (sentIn q) → Conduct ReadIssuerData f q d a

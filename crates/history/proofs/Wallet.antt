@@ -65,9 +65,7 @@ module _ (m : Matched) (f : Face) (q d a : List ℕ) where
             rw (t .create, t .pin, t .sign, t .purge)
             (record {
               fixed = i .fixed;
-              active = i .active;
-              reusable = i .reusable;
-              usecvc = i .usecvc;
+              flags = i .flags;
               codes = refl;
               status = i .status;
               number = i .number;
@@ -119,9 +117,7 @@ of-createWallet m f q d a p =
           rw (t .create, t .pin, t .sign, t .purge)
           (record {
             fixed = i .fixed;
-            active = i .active;
-            reusable = i .reusable;
-            usecvc = i .usecvc;
+            flags = i .flags;
             codes = i .codes;
             status = refl;
             number = omega arith;
@@ -167,9 +163,7 @@ sign-keeps sh f x h q r a i t true n l y z s =
     rw (t .create, t .pin, t .sign, t .purge, n)
     (record {
       fixed = i .fixed;
-      active = i .active;
-      reusable = i .reusable;
-      usecvc = i .usecvc;
+      flags = i .flags;
       codes = i .codes;
       status = i .status;
       number = i .number;
@@ -216,11 +210,9 @@ of-purgeWallet m f q d a p =
           rw (t .create, t .pin, t .sign, t .purge)
           (record {
             fixed = i .fixed;
-            active = i .active;
-            reusable = i .reusable;
-            usecvc = i .usecvc;
+            flags = i .flags;
             codes = i .codes;
-            status = ap afterPurge (i .reusable);
+            status = ap (λ z. afterPurge (z .reusable)) (i .flags);
             number = i .number;
             total = i .total;
             fits = i .fits;

@@ -7,6 +7,7 @@ use lib.ListN.{length}
 use lib.Dec.{leb, eqb}
 use Rattle.wire.specs.Wire.{be1, be2, be4, Bytes}
 use Rattle.fields.specs.Fields.{View, has, holds, val, written, Tagged, fld, tlv}
+use Rattle.card.specs.declared.Flags.{Flags}
 use Rattle.card.specs.declared.Card.{Card}
 use Rattle.card.specs.Layout.{signatureSize, top32}
 use Rattle.card.specs.Values.{lastOf, fresh}
@@ -150,6 +151,19 @@ abbrev pub given : History → List ℕ
 given [] = []
 given (t ∷ h) = cond (did CreateWallet t || did PurgeWallet t) [] (cond (signedNew t) (val Signature (toldIn (t .response))) (given h))
 
+-- the flags: the sheet's, but for this one
+abbrev pub flagsBy : ℕ → Flags → Flags
+flagsBy n g =
+    record {
+      reusable = g .reusable;
+      usecvc = g .usecvc;
+      setpin1 = g .setpin1;
+      setpin2 = g .setpin2;
+      nopurge = g .nopurge;
+      replay = g .replay;
+      active = n;
+    }
+
 -- SIGN's response: CID, signatures, Remaining and Signed_Hashes
 abbrev pub signFields : List ℕ → List ℕ → ℕ → ℕ → List Tagged
 signFields cid signatures remaining hashes =
@@ -256,10 +270,13 @@ module _ (sh : Sheet) (h : History) (t : Tap) (i : Call) (x : List ℕ) where
     -- a card that was purged and is not reusable makes neither wallet nor wallet signature again
     pub ended : sh .flags .reusable ≡ 0 → everPurged h ≡ true → usesWallet (ins (t .request)) ≡ true → (accepted r ≡ false) × (x ≡ [])
 
--- THE CARD that a history left: its Status, wallet number and codes are those that the history shows; while a wallet lives, Remaining and the SIGNs that
+-- THE CARD that a history left: what is fixed is the sheet's, and so are the flags, but for activated, which the history shows, as it shows Status,
+-- wallet number and codes; while a wallet lives, Remaining and the SIGNs that
 -- made new signatures since its creation make up the maximum; Signed_Hashes is all hashes newly signed in the card's life, and that fits 32 bits; and the
 -- last signatures are those newly given last, none without a wallet
 pub record Kept (sh : Sheet) (h : History) (c : Card) : Type 0 where
+  pub fixed : c .face .front .fixed ≡ sh .fixed
+  pub flags : c .face .front .flags ≡ flagsBy (active sh h) (sh .flags)
   pub state : c .face .front .wallet .status ≡ status sh h
   pub number : c .face .front .wallet .number ≡ wallets h
   pub inForce : c .codes ≡ codes sh h
