@@ -89,7 +89,7 @@ def long_inputs():
     for length in (INPUT, INPUT + 1):
         yield 1, b"c" * length
         yield 6, joined(GOOD[:5]) + b"max\t".ljust(length, b"9")
-        yield 13, joined(GOOD[:12]) + b"active\t".ljust(length, b"1") + b"\n"
+        yield len(GOOD), joined(GOOD[:-1]) + GOOD[-1].ljust(length, b"1") + b"\n"
     yield 5, sheet(curve=b"P-256").ljust(INPUT + 1, b"x")
     yield AFTER, sheet() * 20
 

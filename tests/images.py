@@ -9,9 +9,9 @@ import pathlib
 
 from twin.bench import fresh, loaded, purged, some
 from twin.card import is_card
-from twin.image import ED25519, IMAGE_LENGTH, LOADED, encode
+from twin.image import ED25519, IMAGE_LENGTH, LOADED, PLACE, encode
 
-PLACE = pathlib.Path(__file__).resolve().parent.parent / "crates" / "images"
+CRATE = pathlib.Path(__file__).resolve().parent.parent / "crates" / "images"
 
 CARDS = (
     fresh(activated=0),
@@ -62,13 +62,14 @@ def report(image: bytes) -> str:
 
 def hold_to_hand(reports: list):
     """What is said of the last signatures, their number and their 640 bytes, worked out by hand."""
+    count, end = PLACE["last_signatures"], IMAGE_LENGTH - 1
     for card, text in zip(CARDS, reports):
         if card.status != LOADED:
-            assert text.endswith("\n1788-2428\t00-00\n--\n"), card
+            assert text.endswith(f"\n{count}-{end}\t00-00\n--\n"), card
         elif not card.last_signatures:
-            assert text.endswith("\n1788\t00-0A\n1789-2428\t00-00\n--\n"), card
+            assert text.endswith(f"\n{count}\t00-0A\n{count + 1}-{end}\t00-00\n--\n"), card
     for text in reports[len(CARDS) :][: len(NO_WALLET)]:
-        assert text == "0-1787\tnone\n1788\t00-00\n1789-2428\tnone\n--\n", text
+        assert text == f"0-{count - 1}\tnone\n{count}\t00-00\n{count + 1}-{end}\tnone\n--\n", text
 
 
 def main():
@@ -79,9 +80,9 @@ def main():
     with multiprocessing.Pool(2) as pool:
         reports = pool.map(report, images, chunksize=1)
     hold_to_hand(reports)
-    PLACE.mkdir(parents=True, exist_ok=True)
-    (PLACE / "stdin").write_text("".join(image.hex().upper() + "\n" for image in images), newline="\n")
-    (PLACE / "stdout").write_text("".join(reports), newline="\n")
+    CRATE.mkdir(parents=True, exist_ok=True)
+    (CRATE / "stdin").write_text("".join(image.hex().upper() + "\n" for image in images), newline="\n")
+    (CRATE / "stdout").write_text("".join(reports), newline="\n")
     print(f"{len(images)} images, {sum(text.count(chr(10)) for text in reports)} lines")
 
 

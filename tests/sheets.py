@@ -38,7 +38,7 @@ def read(data):
         if not feed or not tab or head != name.encode() or not good_value(name, value):
             return number, values
         values[name] = value
-    return (14 if data else 0), values
+    return (len(NAMES) + 1 if data else 0), values
 
 
 def image(values):
@@ -151,7 +151,7 @@ def cases():
             key + b"x\t" + value + b"\n",
             b" " + key + b"\t" + value + b"\n",
             b"\t" + value + b"\n",
-            NAMES[number % 13].encode() + b"\t" + value + b"\n",
+            NAMES[number % len(NAMES)].encode() + b"\t" + value + b"\n",
             key + b" " + value + b"\n",  # no tab
             key + value + b"\n",
             key + b"\n",
@@ -173,10 +173,10 @@ def cases():
         for part in (line[:-1], line[: line.index(b"\t") + 1], line[:1], b""):
             yield ROOM, front + part
     # bytes after the last line
-    for after in (b"\n", b"\r", b"\x00", b" ", b"x", b"\n\n", whole[0], whole[12], b"seed\t" + b"0" * 32 + b"\n", sheet()):
+    for after in (b"\n", b"\r", b"\x00", b" ", b"x", b"\n\n", whole[0], whole[-1], b"seed\t" + b"0" * 32 + b"\n", sheet()):
         yield ROOM, sheet() + after
     # lines in another order, and line feeds of another kind
-    for number in range(12):
+    for number in range(len(NAMES) - 1):
         order = list(whole)
         order[number], order[number + 1] = order[number + 1], order[number]
         yield ROOM, b"".join(order)

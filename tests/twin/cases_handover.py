@@ -7,7 +7,7 @@ from twin.bench import (
     CREATE_WALLET, CURVES, PIN2, PURGE_WALLET, READ_CARD, READ_ISSUER_DATA, READ_USER_DATA, REPEAT, confirmed, fresh, full, loaded,
     off_by_last, request, sign, some, usual,
 )
-from twin.image import ED25519, EMPTY, LOADED, PURGED, decode, encode
+from twin.image import ED25519, EMPTY, LOADED, PLACE, PURGED, decode, encode
 from twin.request import field
 
 CREATE, PURGE = confirmed(CREATE_WALLET), confirmed(PURGE_WALLET)
@@ -149,8 +149,8 @@ def with_wallet(script):
         script.use(loaded(remaining=1000, last_signatures=held(count)))
         settled = came_to(script, REPEAT, DONE if count else NO_CONDITION)
         assert (field(0x61, held(count)) in settled.response) == (count > 0)
-    image = encode(loaded(last_signatures=held(10)))
-    is_no_card(script, "Loaded with eleven", image[:1788] + b"\x0b" + image[1789:], usual(READ_CARD), REPEAT)
+    image, at = encode(loaded(last_signatures=held(10))), PLACE["last_signatures"]
+    is_no_card(script, "Loaded with eleven", image[:at] + b"\x0b" + image[at + 1 :], usual(READ_CARD), REPEAT)
 
 
 GROUPS = (

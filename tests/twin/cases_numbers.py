@@ -5,7 +5,7 @@ from twin.bench import (
     fresh, key, loaded, plain, purged, request, sign, some, usual,
 )
 from twin.card import ask
-from twin.image import ED25519, LOADED, SECP256K1, Card, encode
+from twin.image import ED25519, IMAGE_LENGTH, LOADED, PLACE, SECP256K1, Card, encode
 
 READ = plain(READ_CARD, (0x10, PIN1))
 WRITE = usual(WRITE_ISSUER_DATA)
@@ -88,10 +88,12 @@ def poked(card: Card, offset: int, value: int) -> bytes:
     return bytes(image)
 
 
+KEY = PLACE["wallet_public_key"]  # its length, which the key follows
+SIGNATURES = PLACE["last_signatures"]  # their number
 DATA_PLACES = {
-    178: dict(user_data=some(512)),
-    692: dict(user_protected_data=some(512)),
-    1206: dict(issuer_data=some(512), issuer_data_signature=some(64)),
+    PLACE["user_data"]: dict(user_data=some(512)),
+    PLACE["user_protected_data"]: dict(user_protected_data=some(512)),
+    PLACE["issuer_data"]: dict(issuer_data=some(512), issuer_data_signature=some(64)),
 }
 
 
@@ -107,8 +109,8 @@ def wrong_values() -> list:
         ("curve 3", changed(fresh(), curve=3)),
         ("curve changed under a wallet", changed(wallet, curve=ED25519)),
         ("Max_Signatures 0", changed(fresh(), max_signatures=0)),
-        *((f"flag {number} is 2", poked(fresh(), 80 + number, 2)) for number in range(7)),
-        ("a flag is FF", poked(fresh(), 80, 0xFF)),
+        *((f"flag {number} is 2", poked(fresh(), PLACE["reusable"] + number, 2)) for number in range(7)),
+        ("a flag is FF", poked(fresh(), PLACE["reusable"], 0xFF)),
         ("Status 0", changed(fresh(wallet_number=1), status=0)),
         ("Status 4", changed(fresh(wallet_number=1), status=4)),
         ("Status Loaded without a key", changed(fresh(), status=LOADED, wallet_number=1)),
@@ -124,7 +126,7 @@ def wrong_values() -> list:
         ("not activated, Purged", changed(ended, activated=0)),
         ("not activated, Empty, wallet number 3", changed(fresh(wallet_number=3), activated=0)),
         ("Remaining above Max", changed(wallet, remaining=1001)),
-        ("Remaining above Max in its highest byte", poked(wallet, 90, 0x80)),
+        ("Remaining above Max in its highest byte", poked(wallet, PLACE["remaining"], 0x80)),
         ("Empty with Remaining 1", changed(fresh(), remaining=1)),
         ("Purged with Remaining 1", changed(ended, remaining=1)),
     ]
@@ -134,29 +136,29 @@ def wrong_bytes() -> list:
     """Lengths beyond their room, bytes after a value, and images of other lengths."""
     wallet, edwards = loaded(), loaded(ED25519)
     return [
-        ("key of 64 bytes", poked(wallet, 98, 64)),
-        ("key of 66 bytes", poked(wallet, 98, 66)),
-        ("key of 255 bytes", poked(wallet, 98, 255)),
-        ("key starting 02", poked(wallet, 99, 2)),
-        ("a byte after a key of 32", poked(edwards, 99 + 32, 1)),
-        ("a byte at the end of the room for the key", poked(edwards, 163, 1)),
-        ("a byte where no key is", poked(fresh(), 99, 4)),
+        ("key of 64 bytes", poked(wallet, KEY, 64)),
+        ("key of 66 bytes", poked(wallet, KEY, 66)),
+        ("key of 255 bytes", poked(wallet, KEY, 255)),
+        ("key starting 02", poked(wallet, KEY + 1, 2)),
+        ("a byte after a key of 32", poked(edwards, KEY + 1 + 32, 1)),
+        ("a byte at the end of the room for the key", poked(edwards, KEY + 65, 1)),
+        ("a byte where no key is", poked(fresh(), KEY + 1, 4)),
         *((f"data of 513 at {place}", poked(with_data(place), place + 1, 1)) for place in DATA_PLACES),
         *((f"data of 65,280 at {place}", poked(fresh(), place, 255)) for place in DATA_PLACES),
         *((f"a byte after the data at {place}", poked(fresh(), place + 2, 1)) for place in DATA_PLACES),
         *((f"a byte at the end of the data at {place}", poked(fresh(), place + 513, 1)) for place in DATA_PLACES),
-        ("an issuer signature without data", poked(fresh(), 1720, 1)),
-        ("the last byte of an issuer signature without data", poked(fresh(), 1783, 1)),
-        ("255 last signatures", poked(loaded(), 1788, 255)),
-        ("11 last signatures", poked(loaded(last_signatures=some(640)), 1788, 11)),
-        ("a byte after the last signatures", poked(loaded(last_signatures=some(64)), 1789 + 64, 1)),
-        ("the last byte of the image", poked(loaded(last_signatures=some(576)), 2428, 1)),
+        ("an issuer signature without data", poked(fresh(), PLACE["issuer_data_signature"], 1)),
+        ("the last byte of an issuer signature without data", poked(fresh(), PLACE["issuer_data_signature"] + 63, 1)),
+        ("255 last signatures", poked(loaded(), SIGNATURES, 255)),
+        ("11 last signatures", poked(loaded(last_signatures=some(640)), SIGNATURES, 11)),
+        ("a byte after the last signatures", poked(loaded(last_signatures=some(64)), SIGNATURES + 1 + 64, 1)),
+        ("the last byte of the image", poked(loaded(last_signatures=some(576)), IMAGE_LENGTH - 1, 1)),
         ("no byte", b""),
         ("one byte", b"\1"),
-        ("2,428 bytes", encode(fresh())[:-1]),
-        ("2,430 bytes", encode(fresh()) + b"\0"),
-        ("a card and the rest of its buffer", encode(fresh()) + bytes(4090 - 2429)),
-        ("2,429 bytes of 00", bytes(2429)),
+        (f"{IMAGE_LENGTH - 1:,} bytes", encode(fresh())[:-1]),
+        (f"{IMAGE_LENGTH + 1:,} bytes", encode(fresh()) + b"\0"),
+        ("a card and the rest of its buffer", encode(fresh()) + bytes(4090 - IMAGE_LENGTH)),
+        (f"{IMAGE_LENGTH:,} bytes of 00", bytes(IMAGE_LENGTH)),
     ]
 
 
@@ -196,7 +198,7 @@ def draws(script):
 
 def buffers(script):
     rooms = ((0x07FF, 0x0800, 0x1000), (0x0800, 0x07FF, 0x1000), (0x0800, 0x0800, 0x0FFF), (0x0000, 0x0800, 0x1000),
-             (0x0800, 0x0000, 0x1000), (0x0800, 0x0800, 0x0000), (0x0800, 0x0800, 0x097D), (0x0000, 0x0000, 0x0000),
+             (0x0800, 0x0000, 0x1000), (0x0800, 0x0800, 0x0000), (0x0800, 0x0800, IMAGE_LENGTH), (0x0000, 0x0000, 0x0000),
              (0x0801, 0x0802, 0x1003))
     for lent in rooms:
         script.say("buffers of {}, {} and {}: read, create, a bad request".format(*lent))
@@ -213,7 +215,7 @@ def buffers(script):
 
 def mended_one_by_one(script):
     """All of it wrong, then one thing mended after the other: 1, 2, 3, a check, 4, check 13, done."""
-    damaged, good = poked(fresh(), 87, 0), encode(fresh())
+    damaged, good = poked(fresh(), PLACE["status"], 0), encode(fresh())
     short, enough = (0x07FF, 0x07FF, 0x0FFF), (0x0800, 0x0800, 0x1000)
     rows = (
         (1, damaged, short, DRAW[:31], BAD_REQUEST, b"\2"),
@@ -234,7 +236,7 @@ def mended_one_by_one(script):
 
 def each_against_the_later(script):
     """One thing wrong, with one later thing wrong: the earlier decides."""
-    damaged, good = poked(fresh(), 87, 0), encode(fresh())
+    damaged, good = poked(fresh(), PLACE["status"], 0), encode(fresh())
     wrongs = ("image", "buffers", "draw", "request", "answers")
     for place, earlier in enumerate(wrongs):
         for later in wrongs[place + 1 :]:

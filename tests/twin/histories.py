@@ -4,7 +4,7 @@ from typing import NamedTuple
 
 from twin.chance import Chance, any_card
 from twin.chance_requests import any_request
-from twin.image import IMAGE_LENGTH, LOADED, Card, decode, encode
+from twin.image import IMAGE_LENGTH, LOADED, PLACE, Card, decode, encode
 from twin.pair import ROOMS, Pair
 from twin.request import number
 
@@ -55,7 +55,7 @@ def damaged_image(chance: Chance, image: bytes) -> bytes:
         return encode(card._replace(last_signatures=chance.signatures(least=1)))
     if chance.often(0.1):
         return chance.choice((image[:-1], image + b"\0", b"", image[: chance.randrange(IMAGE_LENGTH)]))
-    at = chance.randrange(75, 180) if chance.often(0.6) else chance.randrange(IMAGE_LENGTH)
+    at = chance.randrange(PLACE["curve"], PLACE["user_data"] + 2) if chance.often(0.6) else chance.randrange(IMAGE_LENGTH)
     return image[:at] + bytes([chance.choice((0, 1, 2, 3, 255, chance.randrange(256)))]) + image[at + 1 :]
 
 

@@ -48,16 +48,19 @@ class Card(NamedTuple):
 FLAGS = slice(Card._fields.index("reusable"), Card._fields.index("activated") + 1)
 UP_TO_KEY = slice(0, Card._fields.index("wallet_public_key"))
 
-# A value of changing length is its length (of the signatures: their number), then its whole room.
-LAYOUT = struct.Struct(
-    ">32s32s8s3sBI7B"  # PIN1, PIN2, CID, CVC, curve, Max_Signatures, the flags
-    "BHIIB65s"  # Status, wallet number, Remaining, Signed_Hashes, the key
-    "IHII"  # Check_Wallet_Counter, Card_Validation_Counter, the user counters
-    "H512sH512s"  # User_Data, User_ProtectedData
-    "H512s64sI"  # Issuer_Data, its signature and counter
-    "B640s"  # the last signatures
+# The form of each value, one after another. One of changing length is its length (of the signatures: their number), then its whole room.
+FORMS = (
+    "32s", "32s", "8s", "3s", "B", "I",  # PIN1, PIN2, CID, CVC, curve, Max_Signatures
+    "B", "B", "B", "B", "B", "B", "B",  # the flags
+    "B", "H", "I", "I", "B65s",  # Status, wallet number, Remaining, Signed_Hashes, the key
+    "I", "H", "I", "I",  # Check_Wallet_Counter, Card_Validation_Counter, the user counters
+    "H512s", "H512s",  # User_Data, User_ProtectedData
+    "H512s", "64s", "I",  # Issuer_Data, its signature and counter
+    "B640s",  # the last signatures
 )
+LAYOUT = struct.Struct(">" + "".join(FORMS))
 IMAGE_LENGTH = LAYOUT.size
+PLACE = {name: struct.calcsize(">" + "".join(FORMS[:at])) for at, name in enumerate(Card._fields)}
 
 
 def encode(card: Card) -> bytes:

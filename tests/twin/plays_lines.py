@@ -4,10 +4,10 @@ Before the bad line stand some good taps, whose lines stay, and after it mostly 
 """
 
 from twin.bench import CREATE_WALLET, DRAW, PIN1, READ_CARD, confirmed, plain, sign
-from twin.recorder import Recording
+from twin.recorder import Recording, sheet_lines
 from twin.script import hexed
 
-FIRST_TAP = 14  # its line in the file
+FIRST_TAP = len(sheet_lines()) + 1  # its line in the file
 LONGEST_LINE = 8192
 TABS = 3
 READ = plain(READ_CARD, (0x10, PIN1))

@@ -6,7 +6,8 @@ TAP = b"\t".join((b"00F2", b"00" * 32, b"", b"6700"))
 GOOD = sheet_lines()
 WRONG = (b"cid\tAA0000000001667", b"pin1\t" + b"1a" * 32, b"pin2\t" + b"22" * 31, b"cvc\t12A", b"curve\tsecp256r1", b"max\t4294967296",
          b"reusable\t2", b"usecvc\t", b"setpin1 1", b"setpin3\t1", b"nopurge\t0 ", b"replay\t1\r", b"\tactive\t1")
-LINES = range(1, len(GOOD) + 1)
+LAST = len(GOOD)
+LINES = range(1, LAST + 1)
 
 
 def begun(book: list, name: str, bad: int, lines: list) -> Recording:
@@ -30,7 +31,7 @@ def each_line(book: list):
 
 
 def long_lines(book: list):
-    for at, length in ((1, 8192), (1, 8193), (6, 8193), (13, 8192), (13, 8193), (1, 20_000), (13, 20_000)):
+    for at, length in ((1, 8192), (1, 8193), (6, 8193), (LAST, 8192), (LAST, 8193), (1, 20_000), (LAST, 20_000)):
         recording = begun(book, f"line {at} of {length} bytes", at, GOOD[: at - 1])
         recording.part(GOOD[at - 1])
         recording.part(b"0", length - len(GOOD[at - 1]))
@@ -51,7 +52,7 @@ def no_sheet(book: list):
 def cut(book: list):
     for at in LINES:
         begun(book, f"cut in line {at}", at, GOOD[: at - 1]).part(GOOD[at - 1][: -1 - at % 4])
-    for at in (1, 2, 12, 13):
+    for at in (1, 2, LAST - 1, LAST):
         begun(book, f"ends with line {at}, without its line feed", at, GOOD[: at - 1]).part(GOOD[at - 1])
 
 
