@@ -31,7 +31,7 @@ impl<P: Provider> Card<P> {
     pub fn tap(&mut self, request: &[u8]) -> Result<Response, Error> {
         let draw = self.provider.draw();
         let asked = calls::ask(&self.image, request, &draw).map_err(Error::of)?;
-        let questions = questions_of(&asked, &self.image[64..72]);
+        let questions = questions_of(&asked, View(&self.image).cid());
         let answers = self.provider.answer(&questions);
         let (response, reason, next) = calls::settle(&self.image, request, &draw, &answers).map_err(Error::of)?;
         self.image = next;
