@@ -14,11 +14,13 @@ from twin.card import personalise, settle
 PLACE = pathlib.Path(__file__).resolve().parent.parent / "crates" / "firstreads"
 # 01's own example, to the byte: cid AA00000000016675, curve secp256k1, active 1.
 EXAMPLE = "0108AA000000000166750201010509736563703235366B316304000000009000"
+# The same with active 0: Is_Activated and the seed for curve and hashes.
+ASLEEP = "0108AA000000000166750201013A01003B1000112233445566778899AABBCCDDEEFF9000"
 READ_CARD = bytes.fromhex("00F20000221020")  # CLA, INS, P1, P2, Lc, then tag and length of PIN1
 INPUT = 4096  # what firstread reads at most
 GOOD = (
     b"cid\tAA00000000016675", b"pin1\t" + b"91B4D142823F7D20" * 4, b"pin2\t" + b"2AC9A6746ACA543A" * 4, b"cvc\t123", b"curve\tsecp256k1",
-    b"max\t1000000", b"reusable\t1", b"usecvc\t0", b"setpin1\t1", b"setpin2\t1", b"nopurge\t0", b"replay\t0", b"active\t1",
+    b"max\t1000000", b"reusable\t1", b"usecvc\t0", b"setpin1\t1", b"setpin2\t1", b"nopurge\t0", b"replay\t0", b"active\t1", b"seed\t00112233445566778899AABBCCDDEEFF",
 )
 NAMES = [line.split(b"\t")[0] for line in GOOD]
 AFTER = len(GOOD) + 1
@@ -30,6 +32,7 @@ WRONG = {
     b"cvc": (b"12", b"1234", b"12A"),
     b"curve": (b"secp256r1", b"Ed25519", b"secp256k1 "),
     b"max": (b"0", b"007", b"4294967296", b"10000000000", b"-1"),
+    b"seed": (b"0" * 31, b"0" * 33, b"00112233445566778899aabbccddeeff"),
 }
 NO_FLAG = (b"2", b"01", b"yes")
 
@@ -52,6 +55,9 @@ def good_sheets():
     # PIN2 is the other's PIN1, and both are the same
     yield 0, sheet(pin1=b"F" * 64, pin2=b"0" * 64)
     yield 0, sheet(pin2=b"91B4D142823F7D20" * 4)
+    for active in (b"0", b"1"):
+        yield 0, sheet(active=active, seed=b"0" * 32)
+    yield 0, sheet(active=b"0", seed=b"F" * 32)
 
 
 def bad_lines():
@@ -114,6 +120,7 @@ def expected(bad: int, data: bytes) -> str:
 
 def main():
     assert printed(sheet()) == EXAMPLE + "\n"
+    assert printed(sheet(active=b"0")) == ASLEEP + "\n"
     cases = [case for group in (good_sheets, bad_lines, other_bytes, long_inputs) for case in group()]
     made = {"stdin": "".join(data.hex().upper() + "\n" for _, data in cases), "stdout": "".join(expected(*case) for case in cases)}
     assert len(made["stdin"]) <= 1 << 18, "the program reads 262,144 bytes"

@@ -14,17 +14,44 @@ from twin.image import ED25519, IMAGE_LENGTH, LOADED, PLACE, encode
 CRATE = pathlib.Path(__file__).resolve().parent.parent / "crates" / "images"
 
 CARDS = (
-    fresh(activated=0),
+    fresh(activated=0, activation_seed=bytes(16)),
     fresh(ED25519, user_data=some(5, 1), user_protected_data=some(512, 2)),
     loaded(last_signatures=some(192, 3), issuer_data=some(512, 4), issuer_data_signature=some(64, 5)),
     loaded(ED25519, reusable=0),
     purged(),
     fresh(wallet_number=7),
     loaded(remaining=0, last_signatures=some(640, 6)),
+    fresh(ED25519, activated=0, activation_seed=b"\xff" * 16, reusable=0, issuer_data=b"i", issuer_data_signature=some(64, 5)),
 )
 # Signatures and no wallet, be they zeros: a card as soon as there are none, and by no other byte.
 NO_WALLET = fresh(wallet_number=7, last_signatures=bytes(64)), purged(last_signatures=bytes(640))
 OTHER_LENGTHS = (b"", encode(fresh())[:-1], encode(fresh()) + b"\0")
+# Of before there was a seed: 2,429 bytes.
+WITHOUT_SEED = encode(fresh())[: PLACE["activation_seed"]] + encode(fresh())[PLACE["reusable"] :]
+# The first card's lines: offsets, and the values with which it is a card.
+NOT_ACTIVATED = """\
+0-74	00-FF
+75	01-02
+76-95	00-FF
+96-102	00-01
+103	01-01
+104-109	00-00
+110-113	00-FF
+114-179	00-00
+180-193	00-FF
+194	00-02
+195	00-FF
+196-707	00-00
+708	00-02
+709	00-FF
+710-1221	00-00
+1222	00-02
+1223	00-FF
+1224-1799	00-00
+1800-1803	00-FF
+1804-2444	00-00
+--
+"""
 
 
 def byte_ranges(values: list) -> str:
@@ -61,7 +88,8 @@ def report(image: bytes) -> str:
 
 
 def hold_to_hand(reports: list):
-    """What is said of the last signatures, their number and their 640 bytes, worked out by hand."""
+    """What is worked out by hand: a card that is not activated, the last signatures with their number, and the length of before."""
+    assert reports[0] == NOT_ACTIVATED and reports[-1] == "2429\tno\n"
     count, end = PLACE["last_signatures"], IMAGE_LENGTH - 1
     for card, text in zip(CARDS, reports):
         if card.status != LOADED:
@@ -76,7 +104,7 @@ def main():
     images = [encode(card) for card in CARDS]
     assert all(map(is_card, images))
     images += [encode(card) for card in NO_WALLET]
-    images += OTHER_LENGTHS
+    images += (*OTHER_LENGTHS, WITHOUT_SEED)
     with multiprocessing.Pool(2) as pool:
         reports = pool.map(report, images, chunksize=1)
     hold_to_hand(reports)

@@ -8,9 +8,9 @@ everywhere before."""
 import os, re, sys
 
 ROOM = 4096
-SIZE = 2429
-NAMES = "cid pin1 pin2 cvc curve max reusable usecvc setpin1 setpin2 nopurge replay active".split()
-FLAGS = NAMES[6:]
+SIZE = 2445
+NAMES = "cid pin1 pin2 cvc curve max reusable usecvc setpin1 setpin2 nopurge replay active seed".split()
+FLAGS = NAMES[6:13]
 CURVES = {b"secp256k1": 1, b"ed25519": 2}
 
 
@@ -20,6 +20,8 @@ def good_value(name, value):
         return re.fullmatch(rb"[0-9A-F]{16}", value)
     if name in ("pin1", "pin2"):
         return re.fullmatch(rb"[0-9A-F]{64}", value)
+    if name == "seed":
+        return re.fullmatch(rb"[0-9A-F]{32}", value)
     if name == "cvc":
         return re.fullmatch(rb"[0-9]{3}", value)
     if name == "curve":
@@ -50,9 +52,10 @@ def image(values):
     out[72:75] = values["cvc"]
     out[75] = CURVES[values["curve"]]
     out[76:80] = int(values["max"]).to_bytes(4, "big")
-    for place, flag in enumerate(FLAGS, 80):
+    out[80:96] = bytes.fromhex(values["seed"].decode())
+    for place, flag in enumerate(FLAGS, 96):
         out[place] = int(values[flag])
-    out[87] = 1  # Empty; number, Remaining, hashes, key, counters, data and signatures are 0
+    out[103] = 1  # Empty; number, Remaining, hashes, key, counters, data and signatures are 0
     return bytes(out)
 
 
@@ -80,6 +83,7 @@ PLAIN = {
     "nopurge": b"0",
     "replay": b"0",
     "active": b"1",
+    "seed": b"00112233445566778899AABBCCDDEEFF",
 }
 OTHER = {
     "cid": b"0123456789ABCDEF",
@@ -95,6 +99,7 @@ OTHER = {
     "nopurge": b"1",
     "replay": b"1",
     "active": b"0",
+    "seed": b"0" * 32,
 }
 
 
@@ -121,6 +126,7 @@ WRONG = {
     "curve": [b"SECP256K1", b"secp256k", b"secp256k1 ", b"secp256k11", b"Ed25519", b"ed2551", b"ed255190", b"nistp256", b"1"],
     "max": [b"0", b"00", b"01", b"0001000000", b"4294967296", b"4294967300", b"42949672950", b"18446744073709551617", b"99999999999999999999999999", b"+1", b"-1", b"1e3", b"0x10", b"1.0", b"1,000", b"ten"],
 }
+WRONG["seed"] = [PLAIN["seed"][:-1], PLAIN["seed"] + b"0", PLAIN["seed"][:-2], PLAIN["seed"] + b"00", PLAIN["seed"].lower(), PLAIN["seed"][:-1] + b"f", b"G" + PLAIN["seed"][1:], PLAIN["seed"] * 2]
 for flag in FLAGS:
     WRONG[flag] = [b"2", b"00", b"01", b"/", b"true"]
 
@@ -135,6 +141,8 @@ def cases():
         yield ROOM, sheet(PLAIN, max=number.encode())
     for flag in FLAGS:
         yield ROOM, sheet(PLAIN, **{flag: b"0" if PLAIN[flag] == b"1" else b"1"})
+    for seed in (b"0" * 32, b"F" * 32, b"0" * 31 + b"1", b"8" + b"0" * 31):
+        yield ROOM, sheet(PLAIN, seed=seed)
     # an image buffer that is too short, also with a bad sheet
     for room in (ROOM - 1, SIZE, SIZE - 1, 1, 0):
         yield room, sheet()
@@ -143,8 +151,8 @@ def cases():
     # each line damaged
     for number, name in enumerate(NAMES, 1):
         value, key = PLAIN[name], name.encode()
-        for wrong in WRONG[name]:
-            yield ROOM, sheet(PLAIN, **{name: wrong})
+        for wrong in WRONG[name]:  # with one line after it, to keep the file short
+            yield ROOM, b"".join(lines(PLAIN, **{name: wrong})[: number + 1])
         for line in (
             key.upper() + b"\t" + value + b"\n",  # another name
             key[:-1] + b"\t" + value + b"\n",

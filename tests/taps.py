@@ -6,14 +6,16 @@ Run: python3 tests/taps.py. The cases stand in tests/twin/cases_*.py; tests/READ
 import pathlib
 
 from twin import (
-    cases_checks, cases_codes, cases_data, cases_handover, cases_numbers, cases_requests, cases_status, cases_twice, cases_wallet,
+    cases_activation, cases_checks, cases_codes, cases_data, cases_handover, cases_numbers, cases_requests, cases_status, cases_twice,
+    cases_wallet,
 )
 from twin.bench import NAMES
 from twin.replay import Replay
 from twin.script import Script
 
 PLACE = pathlib.Path(__file__).resolve().parent.parent / "crates" / "taps"
-CASES = (cases_requests, cases_checks, cases_status, cases_wallet, cases_data, cases_numbers, cases_codes, cases_twice, cases_handover)
+CASES = (cases_requests, cases_checks, cases_status, cases_wallet, cases_data, cases_numbers, cases_codes, cases_twice, cases_handover,
+         cases_activation)
 
 
 def written() -> Script:

@@ -11,7 +11,9 @@ STATUSES = {EMPTY: "Empty", LOADED: "Loaded", PURGED: "Purged"}
 CID = bytes.fromhex("AA00000000016675")
 PIN1 = bytes(range(0x10, 0x30))
 PIN2 = bytes(range(0x50, 0x70))
+DEFAULT_PIN1 = bytes.fromhex("91B4D142823F7D20C5F08DF69122DE43F35F057A988D9619F6D3138485C9A203")  # SHA-256 of 000000
 CVC = b"123"
+SEED = bytes(range(0x80, 0x90))
 DRAW = bytes(range(0xC0, 0xE0))
 CHALLENGE = bytes(range(0xA0, 0xB0))
 KEY_CHALLENGE = bytes(range(0xB0, 0xC0))
@@ -29,9 +31,10 @@ NAMES = {
     0xE0: "WRITE_USER_DATA",
     0xF6: "WRITE_ISSUER_DATA",
     0xF7: "READ_ISSUER_DATA",
+    0xFE: "ACTIVATE_CARD",
 }
 (READ_CARD, CREATE_WALLET, CHECK_WALLET, SET_PIN, SIGN, VERIFY_CARD, VALIDATE_CARD, PURGE_WALLET,
- READ_USER_DATA, WRITE_USER_DATA, WRITE_ISSUER_DATA, READ_ISSUER_DATA) = NAMES
+ READ_USER_DATA, WRITE_USER_DATA, WRITE_ISSUER_DATA, READ_ISSUER_DATA, ACTIVATE_CARD) = NAMES
 
 
 # ---------------------------------------------------------------- bytes
@@ -56,7 +59,7 @@ def key(curve: int, seed: int) -> bytes:
 def fresh(curve: int = SECP256K1, **values) -> Card:
     """A fresh card with replay protection that allows the rest and asks no CVC, but for the values given."""
     usual = dict(
-        pin1=PIN1, pin2=PIN2, cid=CID, cvc=CVC, curve=curve, max_signatures=1000,
+        pin1=PIN1, pin2=PIN2, cid=CID, cvc=CVC, curve=curve, max_signatures=1000, activation_seed=SEED,
         reusable=1, cvc_used=0, pin1_may_change=1, pin2_may_change=1,
         purge_prohibited=0, replay_protection=1, activated=1,
     )
@@ -87,6 +90,12 @@ def full(status: int, curve: int = SECP256K1, **values) -> Card:
     """A card of this status that holds something everywhere, signatures only with a wallet."""
     signatures = {} if status == LOADED else dict(last_signatures=b"")
     return in_status(status, curve, **{**FULL, **signatures, **values})
+
+
+def ready(ins: int, curve: int = SECP256K1, make=in_status, **values) -> Card:
+    """A card that does the command."""
+    status = EMPTY if ins in (CREATE_WALLET, ACTIVATE_CARD) else LOADED
+    return make(status, curve, activated=int(ins != ACTIVATE_CARD), **values)
 
 
 # ---------------------------------------------------------------- requests
@@ -157,6 +166,10 @@ def issuer_data(length: int = 20, seed: int = 0, sent: int = 10) -> tuple:
     return (0x32, some(length, 40 + seed)), (0x33, some(64, 41 + seed)), (0x35, counter(sent))
 
 
+def confirmation(reset: int = 0) -> tuple:
+    return (0x36, bytes([reset])), (0x34, some(64, 46))
+
+
 # What each command takes beside PIN1, CID and the codes, on the cards above.
 OWN_FIELDS = {
     READ_CARD: (),
@@ -171,6 +184,7 @@ OWN_FIELDS = {
     WRITE_USER_DATA: ((0x2A, some(5, 42)), (0x2B, some(6, 43)), (0x2C, counter(44)), (0x2D, counter(45))),
     WRITE_ISSUER_DATA: issuer_data(),
     READ_ISSUER_DATA: (),
+    ACTIVATE_CARD: confirmation(),
 }
 WITH_PIN2 = (CREATE_WALLET, SET_PIN, SIGN, VALIDATE_CARD, PURGE_WALLET, WRITE_USER_DATA)
 WITH_CVC = (CREATE_WALLET, SET_PIN, SIGN)
@@ -208,6 +222,7 @@ ONCE = {
     WRITE_USER_DATA: tags("10 01 11 2A 2B 2C 2D"),
     WRITE_ISSUER_DATA: tags("10 01 23 32 33 35"),
     READ_ISSUER_DATA: tags("10 01 23"),
+    ACTIVATE_CARD: tags("10 01 36 34"),
 }
 # Others, which may, though one might think otherwise: of another command, or of the manual alone.
 REPEATED = {
@@ -223,12 +238,13 @@ REPEATED = {
     WRITE_USER_DATA: tags("19"),
     WRITE_ISSUER_DATA: tags("11 24 25"),
     READ_ISSUER_DATA: tags("32 35"),
+    ACTIVATE_CARD: tags("11 19 3A 3B 33"),
 }
 # A value for each of the tags above that the cards above take. One byte less, and none of them is right.
 RIGHT = {
     0x01: CID, 0x10: PIN1, 0x11: PIN2, 0x12: some(32, 12), 0x13: some(32, 13), 0x14: KEY_CHALLENGE, 0x16: CHALLENGE, 0x19: CVC,
-    0x23: b"\0", 0x2A: b"A", 0x2B: b"B", 0x2C: counter(44), 0x2D: counter(45), 0x32: b"I", 0x33: some(64, 33), 0x35: counter(10),
-    0x50: some(32, 50), 0x51: b"\x20",
+    0x23: b"\0", 0x2A: b"A", 0x2B: b"B", 0x2C: counter(44), 0x2D: counter(45), 0x32: b"I", 0x33: some(64, 33), 0x34: some(64, 34),
+    0x35: counter(10), 0x36: b"\0", 0x50: some(32, 50), 0x51: b"\x20",
 }
 
 
@@ -241,13 +257,13 @@ def each_once(ins: int) -> list:
 
 
 class Provider:
-    """Answers questions in the right shape, never twice the same bytes; kind 5 with yes."""
+    """Answers questions in the right shape, never twice the same bytes; the issuer's word, kinds 5 and 6, is yes."""
 
     def __init__(self):
         self.given = 0
 
     def answer(self, kind: int, curve: int) -> bytes:
-        if kind == 5:
+        if kind in (5, 6):
             return b"\1"
         self.given += 1
         made = hashlib.sha512(b"answer %d" % self.given).digest()

@@ -6,6 +6,7 @@ from twin.image import LOADED, Card, decode, encode
 CID = "AA00000000016675"
 PIN1, PIN2 = "11" * 32, "22" * 32
 KEY = "04" + "33" * 64
+SEED = "00112233445566778899AABBCCDDEEFF"
 SALT, KEY_SALT = "0" * 32, "F" * 32
 DRAW = SALT + KEY_SALT
 CHALLENGE, KEY_CHALLENGE = "C1" * 16, "C2" * 16
@@ -16,7 +17,7 @@ WRITTEN = ACCESS + "3202AABB" + "3340" + "55" * 64
 
 SHEET_LINES = (
     "cid\t" + CID, "pin1\t" + PIN1, "pin2\t" + PIN2, "cvc\t123", "curve\tsecp256k1", "max\t7", "reusable\t1",
-    "usecvc\t0", "setpin1\t1", "setpin2\t1", "nopurge\t0", "replay\t1", "active\t1",
+    "usecvc\t0", "setpin1\t1", "setpin2\t1", "nopurge\t0", "replay\t1", "active\t1", "seed\t" + SEED,
 )
 
 

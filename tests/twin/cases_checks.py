@@ -5,9 +5,9 @@ nothing, so that a card which looks at them too early is seen.
 """
 
 from twin.bench import (
-    CHECK_WALLET, CID, CREATE_WALLET, CVC, NAMES, OWN_FIELDS, PIN1, PIN2, PURGE_WALLET, READ_CARD, READ_ISSUER_DATA,
-    SET_PIN, SIGN, VALIDATE_CARD, VERIFY_CARD, WITH_CVC, WITH_PIN2, WRITE_ISSUER_DATA, WRITE_USER_DATA, counter,
-    hashes, header, in_status, join, off_by_last, sized, some,
+    ACTIVATE_CARD, CHECK_WALLET, CID, CREATE_WALLET, CVC, NAMES, OWN_FIELDS, PIN1, PIN2, PURGE_WALLET, READ_CARD,
+    READ_ISSUER_DATA, SET_PIN, SIGN, VALIDATE_CARD, VERIFY_CARD, WITH_CVC, WITH_PIN2, WRITE_ISSUER_DATA, WRITE_USER_DATA,
+    confirmation, counter, hashes, header, in_status, join, off_by_last, ready, sized, some,
 )
 from twin.image import EMPTY, LOADED, PURGED, encode, is_card
 
@@ -30,6 +30,7 @@ UNFIT_FIELDS = {
     WRITE_USER_DATA: ((0x2B, b""),),
     WRITE_ISSUER_DATA: ((0x32, b"data"), (0x33, some(63)), (0x35, counter(10))),
     READ_ISSUER_DATA: ((0x23, b"\1"),),
+    ACTIVATE_CARD: confirmation(reset=2),
 }
 UNMET_CONDITION = {
     CREATE_WALLET: dict(wallet_number=65_535),
@@ -38,6 +39,7 @@ UNMET_CONDITION = {
     VALIDATE_CARD: dict(card_validation_counter=65_535),
     PURGE_WALLET: dict(purge_prohibited=1),
     WRITE_ISSUER_DATA: dict(issuer_data_counter=10),
+    ACTIVATE_CARD: dict(activated=1),
 }
 
 
@@ -46,7 +48,7 @@ def can_fail(ins: int) -> list:
     cannot = set()
     if ins == READ_CARD:
         cannot |= {7}
-    if ins in (READ_CARD, READ_ISSUER_DATA):
+    if ins in (READ_CARD, READ_ISSUER_DATA, ACTIVATE_CARD):
         cannot |= {8}
     if ins not in FORBIDDEN_STATUS:
         cannot |= {9}
@@ -61,11 +63,12 @@ def can_fail(ins: int) -> list:
 
 def card_failing(ins: int, failing: set):
     """A card on which these of the checks 8, 9 and 12 fail, or None where there is no such card."""
-    status = EMPTY if ins == CREATE_WALLET or 8 in failing else LOADED
+    doing = ready(ins)
+    status, activated = (EMPTY, 0) if 8 in failing else (doing.status, doing.activated)
     if 9 in failing:
         status = FORBIDDEN_STATUS[ins]
-    values = UNMET_CONDITION[ins] if 12 in failing else {}
-    card = in_status(status, cvc_used=1, activated=int(8 not in failing), **values)
+    values = dict(cvc_used=1, activated=activated) | (UNMET_CONDITION[ins] if 12 in failing else {})
+    card = in_status(status, **values)
     return card if is_card(encode(card)) else None
 
 

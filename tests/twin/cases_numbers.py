@@ -1,8 +1,8 @@
 """Cases for the numbers 1 to 4 and check 13: images, buffers, draws, answers, and the order among them."""
 
 from twin.bench import (
-    CHALLENGE, CHECK_WALLET, CONFIRM, CREATE_WALLET, DRAW, NAMES, PIN1, READ_CARD, SIGN, WRITE_ISSUER_DATA, confirmed,
-    fresh, key, loaded, plain, purged, request, sign, some, usual,
+    ACTIVATE_CARD, CHALLENGE, CHECK_WALLET, CONFIRM, CREATE_WALLET, DRAW, NAMES, PIN1, READ_CARD, SIGN, WRITE_ISSUER_DATA, confirmed,
+    fresh, key, loaded, plain, purged, ready, request, sign, some, usual,
 )
 from twin.card import ask
 from twin.image import ED25519, IMAGE_LENGTH, LOADED, PLACE, SECP256K1, Card, encode
@@ -15,20 +15,16 @@ BAD_REQUEST = b""
 # ---------------------------------------------------------------- answers
 
 
-def card_for(ins: int, curve: int) -> Card:
-    return fresh(curve) if ins == CREATE_WALLET else loaded(curve, last_signatures=some(64, 1))
-
-
 def questioned() -> list:
     """A title, a card and a request for each way in which a command can pass."""
-    rows = [(name, card_for(ins, SECP256K1), usual(ins)) for ins, name in NAMES.items()]
-    for ins in (CREATE_WALLET, CHECK_WALLET, WRITE_ISSUER_DATA):
-        rows.append((f"{NAMES[ins]}, ed25519", card_for(ins, ED25519), usual(ins)))
+    rows = [(name, ready(ins), usual(ins)) for ins, name in NAMES.items()]
+    for ins in (CREATE_WALLET, CHECK_WALLET, WRITE_ISSUER_DATA, ACTIVATE_CARD):
+        rows.append((f"{NAMES[ins]}, ed25519", ready(ins, ED25519), usual(ins)))
     for words, fields in (("tag 14 absent", ()), ("tag 14 empty", ((0x14, b""),))):
         rows.append((f"CHECK_WALLET, {words}", loaded(), request(CHECK_WALLET, (0x16, CHALLENGE), *fields)))
     for count in (1, 10):
         rows.append((f"SIGN, {count} hashes", loaded(), sign(count)))
-    rows.append(("SIGN, the repeat", card_for(SIGN, SECP256K1), confirmed(SIGN)))
+    rows.append(("SIGN, the repeat", loaded(last_signatures=some(64, 1)), confirmed(SIGN)))
     return rows
 
 

@@ -63,7 +63,7 @@ def classes(script):
 
 
 def instructions(script):
-    """Settle alone, over a payload that is malformed: 6A86 for the twelve commands, 6D00 for all else."""
+    """Settle alone, over a payload that is malformed: 6A86 for the thirteen commands, 6D00 for all else."""
     script.use(fresh())
     for ins in range(256):
         settled = script.settle(header(ins) + b"\1\x10", b"\xee", DRAW)

@@ -4,9 +4,9 @@ from twin.bench import (
     ACCESS, CHECK_WALLET, CID, CONFIRM, CONFIRM_CVC, CREATE_WALLET, CURVES, CVC, NAMES, OWN_FIELDS, PIN1, PIN2,
     READ_CARD, READ_ISSUER_DATA, READ_USER_DATA, SET_PIN, SIGN, STATUSES, VALIDATE_CARD, VERIFY_CARD, WITH_CVC,
     WITH_PIN2, WRITE_ISSUER_DATA, confirmed, fresh, full, hashes, header, issuer_data, loaded, off_by_last, plain,
-    purged, request, sign, some, usual,
+    purged, ready, request, sign, some, usual,
 )
-from twin.image import ED25519, EMPTY, LOADED, TOP_32
+from twin.image import ED25519, EMPTY, TOP_32
 
 # ---------------------------------------------------------------- curve, status, activation
 
@@ -26,9 +26,8 @@ def fresh_cards(script):
 
 
 def not_activated(script):
-    card = fresh(activated=0)
-    for ins, name in NAMES.items():
-        script.case(f"{name}, not activated", card, usual(ins))
+    """Without CID or PIN1, and with data held. Which commands are carried out stands in cases_activation.py."""
+    script.use(fresh(activated=0))
     for ins in (READ_CARD, READ_ISSUER_DATA, SIGN, CREATE_WALLET):
         script.case(f"{NAMES[ins]}, not activated, without CID", None, plain(ins, ACCESS[0]))
         script.case(f"{NAMES[ins]}, not activated, without PIN1", None, plain(ins, ACCESS[1]))
@@ -43,7 +42,7 @@ def asked_codes(script):
     """PIN2 and CVC are asked of some commands only, and CVC only where the card uses it."""
     for ins, name in NAMES.items():
         for used in (0, 1):
-            card = full(EMPTY if ins == CREATE_WALLET else LOADED, cvc_used=used)
+            card = ready(ins, make=full, cvc_used=used)
             own = OWN_FIELDS[ins]
             script.case(f"{name}, CVC used {used}, no code", card, request(ins, *own))
             script.case(f"{name}, CVC used {used}, PIN2 alone", card, request(ins, *CONFIRM, *own))

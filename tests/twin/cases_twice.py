@@ -5,11 +5,11 @@ What each must come to stands here by itself, so that the twin is held to it too
 
 from twin import card as twin
 from twin.bench import (
-    ACCESS, CHALLENGE, CID, CONFIRM_CVC, CREATE_WALLET, DRAW, NAMES, ONCE, PIN1, PIN2, READ_CARD, READ_ISSUER_DATA, READ_USER_DATA,
+    ACCESS, CHALLENGE, CID, CONFIRM_CVC, DRAW, NAMES, ONCE, PIN1, PIN2, READ_CARD, READ_ISSUER_DATA, READ_USER_DATA,
     REPEATED, RIGHT, SIGN, VERIFY_CARD, WRITE_USER_DATA, Provider, each_once, hashes, header, in_status, join, loaded, long_field,
-    off_by_last, plain, request, sized,
+    off_by_last, plain, ready, request, sized,
 )
-from twin.image import EMPTY, LOADED, Card
+from twin.image import EMPTY, Card
 from twin.request import field
 
 REFUSED = (0x6A86, 5)
@@ -18,7 +18,7 @@ TORN = b"\xee"
 
 def needing(ins: int) -> Card:
     """A card that does the command and needs all its values."""
-    return in_status(EMPTY if ins == CREATE_WALLET else LOADED, cvc_used=1)
+    return ready(ins, cvc_used=1)
 
 
 def not_needing(ins: int) -> Card:

@@ -2,6 +2,7 @@
 
 import random
 
+from twin.commands import DEFAULT_PIN1
 from twin.image import ED25519, EMPTY, KEY_LENGTH, LOADED, PURGED, SECP256K1, SIGNATURE_LENGTH, TOP_16, TOP_32, Card
 
 DATA_ROOM = 512
@@ -41,31 +42,34 @@ class Chance(random.Random):
 
 def any_card(chance: Chance) -> Card:
     """Any card at all, also one to which no history leads."""
-    curve = chance.choice((SECP256K1, ED25519))
-    activated = chance.flag(0.9)
-    card = held(chance, fresh(chance, curve, activated))
-    if not activated:
-        return card
+    if chance.often(0.15):
+        return not_activated(chance)
+    card = held(chance, fresh(chance))
     status = chance.choices((EMPTY, LOADED, PURGED), (3, 6, 1))[0]
     return {EMPTY: emptied, LOADED: loaded, PURGED: purged}[status](chance, card)
 
 
-def fresh(chance: Chance, curve: int, activated: int) -> Card:
-    pin1 = chance.randbytes(32)
+def not_activated(chance: Chance) -> Card:
+    return held(chance, fresh(chance)._replace(activated=0))
+
+
+def fresh(chance: Chance) -> Card:
+    pin1 = DEFAULT_PIN1 if chance.often(0.1) else chance.randbytes(32)
     return Card(
         pin1=pin1,
         pin2=pin1 if chance.often(0.05) else chance.randbytes(32),
         cid=chance.randbytes(8),
         cvc=chance.randbytes(3),
-        curve=curve,
+        curve=chance.choice((SECP256K1, ED25519)),
         max_signatures=chance.near_ends(1, TOP_32),
+        activation_seed=chance.choice((bytes(16), b"\xff" * 16)) if chance.often(0.1) else chance.randbytes(16),
         reusable=chance.flag(0.7),
         cvc_used=chance.flag(0.4),
         pin1_may_change=chance.flag(0.7),
         pin2_may_change=chance.flag(0.7),
         purge_prohibited=chance.flag(0.2),
         replay_protection=chance.flag(0.6),
-        activated=activated,
+        activated=1,
     )
 
 

@@ -3,7 +3,7 @@
 from typing import Callable
 
 from twin.bench import (
-    CHECK_WALLET, NAMES, PURGE_WALLET, READ_CARD, READ_ISSUER_DATA, SET_PIN, SIGN, VALIDATE_CARD,
+    ACTIVATE_CARD, CHECK_WALLET, NAMES, PURGE_WALLET, READ_CARD, READ_ISSUER_DATA, SET_PIN, SIGN, VALIDATE_CARD,
     VERIFY_CARD, WITH_CVC, WITH_PIN2, WRITE_ISSUER_DATA, WRITE_USER_DATA, header, long_field, long_lc, short_lc,
 )
 from twin.chance import DATA_ROOM, Chance
@@ -13,8 +13,11 @@ from twin.request import Tag, big_endian, field
 
 LONGEST = 1024
 CODES = (Tag.CID, Tag.PIN1, Tag.PIN2, Tag.CVC)
-# How often a command is drawn from those that the card's status allows. A purge ends much, so it is rare.
-WEIGHTS = {ins: 4 for ins in NAMES} | {SIGN: 12, CHECK_WALLET: 6, VALIDATE_CARD: 6, WRITE_ISSUER_DATA: 6, PURGE_WALLET: 1}
+# How often a command is drawn from those that the card's status allows. A purge ends much, and an activation comes once, so they are rare.
+WEIGHTS = {ins: 4 for ins in NAMES} | {
+    SIGN: 12, CHECK_WALLET: 6, VALIDATE_CARD: 6, WRITE_ISSUER_DATA: 6, PURGE_WALLET: 1, ACTIVATE_CARD: 2,
+}
+NOT_ACTIVATED_WEIGHTS = WEIGHTS | {ACTIVATE_CARD: 8}
 
 
 class Draft:
@@ -65,7 +68,8 @@ def any_command(chance: Chance, card: Card) -> int:
     if chance.often(0.12):
         return chance.choice(list(NAMES))
     allowed = [ins for ins in NAMES if card.status in COMMANDS[ins].allowed_in]
-    return chance.choices(allowed, [WEIGHTS[ins] for ins in allowed])[0]
+    weights = WEIGHTS if card.activated else NOT_ACTIVATED_WEIGHTS
+    return chance.choices(allowed, [weights[ins] for ins in allowed])[0]
 
 
 # ---------------------------------------------------------------- what a card takes
@@ -150,6 +154,11 @@ def sent_counter(chance: Chance, stored: int) -> int:
     return chance.choice((above, above, above, above, chance.near_ends(stored, TOP_32), stored, max(stored - 1, 0)))
 
 
+def confirmation(chance: Chance, draft: Draft, card: Card):
+    draft.add(Tag.RESET_PIN1, bytes([chance.flag()]))
+    draft.add(Tag.ACTIVATION_SIGNATURE, chance.randbytes(SIGNATURE_LENGTH))
+
+
 OWN = {
     CHECK_WALLET: challenges,
     SET_PIN: new_codes,
@@ -158,6 +167,7 @@ OWN = {
     WRITE_USER_DATA: user_data,
     WRITE_ISSUER_DATA: issuer_data,
     READ_ISSUER_DATA: mode,
+    ACTIVATE_CARD: confirmation,
 }
 
 
@@ -178,7 +188,7 @@ def other_class(chance: Chance, draft: Draft, card: Card):
 
 
 def other_command(chance: Chance, draft: Draft, card: Card):
-    draft.ins = chance.choice((0xF5, 0xFE, 0xFF, 0x00, chance.randrange(256)))
+    draft.ins = chance.choice((0xF5, 0xFD, 0xFF, 0x00, chance.randrange(256)))
 
 
 def other_parameters(chance: Chance, draft: Draft, card: Card):

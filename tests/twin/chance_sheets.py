@@ -4,7 +4,8 @@ from twin.chance import Chance
 from twin.image import TOP_32
 
 NAMES = (b"cid", b"pin1", b"pin2", b"cvc", b"curve", b"max", b"reusable", b"usecvc", b"setpin1", b"setpin2", b"nopurge",
-         b"replay", b"active")
+         b"replay", b"active", b"seed")
+OF_HEX = [NAMES.index(name) for name in (b"cid", b"pin1", b"pin2", b"seed")]
 # Values that stand near a good one for some line or other.
 ODD_VALUES = (
     b"", b"0", b"1", b"2", b"00", b"01", b"+1", b"-1", b" 1", b"1 ", b"1\r", b"1\t", b"\t1", b"007", b"12", b"1234", b"12A",
@@ -18,7 +19,7 @@ def good_lines(chance: Chance) -> list:
         return chance.randbytes(length).hex().upper().encode()
 
     values = [hexed(8), hexed(32), hexed(32), b"%03d" % chance.randrange(1000), chance.choice((b"secp256k1", b"ed25519")),
-              b"%d" % chance.near_ends(1, TOP_32), *(b"%d" % chance.flag() for _ in range(7))]
+              b"%d" % chance.near_ends(1, TOP_32), *(b"%d" % chance.flag() for _ in range(7)), hexed(16)]
     return [name + b"\t" + value + b"\n" for name, value in zip(NAMES, values)]
 
 
@@ -43,7 +44,8 @@ def other_value(chance: Chance, lines: list, at: int):
 
 
 def small_letters(chance: Chance, lines: list, at: int):
-    lines[at % 3] = lines[at % 3].lower()
+    at = OF_HEX[at % len(OF_HEX)]
+    lines[at] = lines[at].lower()
 
 
 def value_length(chance: Chance, lines: list, at: int):

@@ -1,5 +1,6 @@
-"""The twelve commands: where each is allowed, what it needs and asks of the provider, what it answers and leaves."""
+"""The thirteen commands: where each is allowed, what it needs and asks of the provider, what it answers and leaves."""
 
+from hashlib import sha256
 from typing import NamedTuple
 
 from twin.image import CURVE_NAME, EMPTY, LOADED, PURGED, SIGNATURE_LENGTH, TOP_16, TOP_32, Card
@@ -10,6 +11,7 @@ SW_PROCESS_COMPLETED = 0x9000
 DATA_ROOM = 512
 MOST_HASHES = 10
 HASH_LENGTH = 32
+DEFAULT_PIN1 = sha256(b"000000").digest()
 ACCESS = (Tag.PIN1, Tag.CID)
 CODES = (Tag.PIN2, Tag.CVC)
 
@@ -55,16 +57,19 @@ class ReadCard(Command):
     ignores_cid = True
 
     def perform(self, tap, answers):
-        card = tap.card
+        return Done(tap.card, self.told(tap.card))
+
+    @staticmethod
+    def told(card):
         body = field(Tag.STATUS, big_endian(card.status, 1))
         if not card.activated:
-            return Done(card, body + field(Tag.IS_ACTIVATED, b"\0"))
+            return body + field(Tag.IS_ACTIVATED, b"\0") + field(Tag.ACTIVATION_SEED, card.activation_seed)
         body += field(Tag.CURVE_ID, CURVE_NAME[card.curve])
         body += field(Tag.SIGNED_HASHES, big_endian(card.signed_hashes, 4))
         if card.status == LOADED:
             body += field(Tag.WALLET_PUBLIC_KEY, card.wallet_public_key)
             body += field(Tag.REMAINING, big_endian(card.remaining, 4))
-        return Done(card, body)
+        return body
 
 
 class CreateWallet(Command):
@@ -325,6 +330,30 @@ class ReadIssuerData(Command):
         return Done(card, body)
 
 
+class ActivateCard(Command):
+    """It answers as READ_CARD does on the card that it leaves."""
+
+    reads = (*ACCESS, Tag.RESET_PIN1, Tag.ACTIVATION_SIGNATURE)
+    allowed_in = (EMPTY, LOADED, PURGED)
+    before_activation = True
+
+    def fields_fit(self, tap):
+        return tap.value(Tag.RESET_PIN1) in (b"\0", b"\1") and tap.length(Tag.ACTIVATION_SIGNATURE) == SIGNATURE_LENGTH
+
+    def condition(self, tap):
+        return not tap.card.activated
+
+    def questions(self, tap):
+        signature, reset = tap.value(Tag.ACTIVATION_SIGNATURE), tap.value(Tag.RESET_PIN1)
+        return [question(tap.card, 6, signature + tap.card.cid + tap.card.activation_seed + reset)]
+
+    def perform(self, tap, answers):
+        card = tap.card._replace(activated=1)
+        if tap.value(Tag.RESET_PIN1) == b"\1":
+            card = card._replace(pin1=DEFAULT_PIN1)
+        return Done(card, ReadCard.told(card))
+
+
 COMMANDS = {
     0xF2: ReadCard(),
     0xF8: CreateWallet(),
@@ -338,4 +367,5 @@ COMMANDS = {
     0xE0: WriteUserData(),
     0xF6: WriteIssuerData(),
     0xF7: ReadIssuerData(),
+    0xFE: ActivateCard(),
 }

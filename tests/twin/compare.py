@@ -20,7 +20,7 @@ from twin.pair import Differs, Pair
 from twin.proved import Proved
 from twin.reached import Reached, beyond, never, tables
 from twin.sheet import AFTER_SHEET, NO_ROOM
-from twin.sweeps import codes, image_lengths, images, rooms, sheet_bytes, sheets
+from twin.sweeps import codes, confirmations, image_lengths, images, images_not_activated, rooms, sheet_bytes, sheets
 
 DIFFERENCES_SHOWN = 3
 
@@ -58,8 +58,8 @@ def run(job: Job) -> Outcome:
 
 
 def jobs(taps: int) -> list:
-    kinds = ((histories, -(-taps // TAPS_IN_A_JOB)), (images, 12), (image_lengths, 1), (rooms, 2), (codes, 2), (sheets, 10),
-             (sheet_bytes, 2))
+    kinds = ((histories, -(-taps // TAPS_IN_A_JOB)), (images, 10), (images_not_activated, 2), (image_lengths, 1), (rooms, 2), (codes, 2),
+             (confirmations, 1), (sheets, 10), (sheet_bytes, 2))
     return [Job(work, at) for work, count in kinds for at in range(count)]
 
 
@@ -90,9 +90,11 @@ class Report:
 TITLES = {
     histories: "taps by chance in histories",
     images: "images damaged byte by byte",
+    images_not_activated: "the same, of cards that are not activated",
     image_lengths: "images of every length up to 4,096",
     rooms: "lent buffers of every short length",
     codes: "codes right, wrong, of another length and absent, together",
+    confirmations: "confirmations with every Reset_PIN1, every length of the signature, every answer",
     sheets: "sheets by chance",
     sheet_bytes: "a sheet damaged byte by byte, and every short buffer for its image",
 }
@@ -144,7 +146,8 @@ def main() -> int:
     length = Proved(given.program).image_length()
     report.check(f"an image has {length} bytes", length == IMAGE_LENGTH)
     outcomes = run_all(given.program, given.seed, given.taps, given.processes)
-    report_reached(report, given.taps, summed(outcomes, (histories,)), summed(outcomes, (images, sheets, sheet_bytes)))
+    others = images, images_not_activated, sheets, sheet_bytes
+    report_reached(report, given.taps, summed(outcomes, (histories,)), summed(outcomes, others))
     report_jobs(report, outcomes)
     print(f"{report.passed} passed, {report.failed} failed")
     return 1 if report.failed else 0

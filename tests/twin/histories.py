@@ -12,11 +12,12 @@ TAPS_IN_A_JOB = 2000
 
 
 def answers_by_chance(chance: Chance, questions: bytes) -> bytes:
-    """Answers that fit the questions, kind 5 mostly yes, and a few that do not fit."""
+    """Answers that fit the questions, the issuer's word mostly yes, and a few that do not fit."""
     given = []
     while questions:
         kind, curve, length = questions[0], questions[3], number(questions[4:6])
-        given.append({1: chance.public_key(curve), 5: bytes([chance.flag(0.8)])}.get(kind) or chance.randbytes(64))
+        word = bytes([chance.flag(0.8)])
+        given.append({1: chance.public_key(curve), 5: word, 6: word}.get(kind) or chance.randbytes(64))
         questions = questions[6 + length :]
     return wrong_answers(chance, b"".join(given)) if chance.often(0.08) else b"".join(given)
 
@@ -77,12 +78,18 @@ def tap(pair: Pair, card: Card, image: bytes) -> bytes:
     return settled.image
 
 
+def with_codes(chance: Chance, card: Card, first: Card) -> Card:
+    """The card for which a request is made: now and then with the PIN1 that the history began with."""
+    return card._replace(pin1=first.pin1) if chance.often(0.03) else card
+
+
 def histories(pair: Pair):
     """Cards by chance, each tapped some dozens of times, every tap on the image that the last one left."""
     left = TAPS_IN_A_JOB
     while left:
-        image = encode(any_card(pair.chance))
+        first = any_card(pair.chance)
+        image = encode(first)
         pair.reached.begun()
         for _ in range(min(left, pair.chance.randint(10, 60))):
-            image = tap(pair, decode(image), image)
+            image = tap(pair, with_codes(pair.chance, decode(image), first), image)
             left -= 1

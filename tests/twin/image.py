@@ -21,6 +21,7 @@ class Card(NamedTuple):
     cvc: bytes
     curve: int
     max_signatures: int
+    activation_seed: bytes
     reusable: int
     cvc_used: int
     pin1_may_change: int
@@ -50,7 +51,7 @@ UP_TO_KEY = slice(0, Card._fields.index("wallet_public_key"))
 
 # The form of each value, one after another. One of changing length is its length (of the signatures: their number), then its whole room.
 FORMS = (
-    "32s", "32s", "8s", "3s", "B", "I",  # PIN1, PIN2, CID, CVC, curve, Max_Signatures
+    "32s", "32s", "8s", "3s", "B", "I", "16s",  # PIN1, PIN2, CID, CVC, curve, Max_Signatures, the seed
     "B", "B", "B", "B", "B", "B", "B",  # the flags
     "B", "H", "I", "I", "B65s",  # Status, wallet number, Remaining, Signed_Hashes, the key
     "I", "H", "I", "I",  # Check_Wallet_Counter, Card_Validation_Counter, the user counters

@@ -48,12 +48,13 @@ def session(name: str, seed: str, taps: int, expected, **sheet) -> Recording:
 
 
 def sessions(book: list):
-    """The seeds are such that wallets come and go, and the sums at the end are no zeros."""
+    """The seeds are such that wallets come and go, and the sums at the end are no zeros; in the last a reset is refused and accepted."""
     spoil, usual = Chance("expectations"), dict(max="20")
-    book.append(session("taps by chance", "day 211", 300, None, **usual))
-    book.append(session("taps by chance, every seventh expectation wrong", "day 211", 98, lambda right: wrong(spoil, right), **usual))
-    book.append(session("taps by chance, ed25519", "day 65", 50, None, curve="ed25519", usecvc="1", max="5"))
-    book.append(session("taps by chance, not reusable", "day 29", 40, None, reusable="0", replay="0", setpin1="0", max="3"))
+    book.append(session("taps by chance", "day 14", 300, None, **usual))
+    book.append(session("taps by chance, every seventh expectation wrong", "day 14", 98, lambda right: wrong(spoil, right), **usual))
+    book.append(session("taps by chance, ed25519", "day 17", 50, None, curve="ed25519", usecvc="1", max="5"))
+    book.append(session("taps by chance, not reusable", "day 12", 40, None, reusable="0", replay="0", setpin1="0", max="3"))
+    book.append(session("taps by chance, not activated at first", "day 5", 80, None, active="0", max="9"))
 
 
 GROUPS = (sessions,)

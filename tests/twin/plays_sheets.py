@@ -5,7 +5,7 @@ from twin.recorder import Recording, sheet_lines
 TAP = b"\t".join((b"00F2", b"00" * 32, b"", b"6700"))
 GOOD = sheet_lines()
 WRONG = (b"cid\tAA0000000001667", b"pin1\t" + b"1a" * 32, b"pin2\t" + b"22" * 31, b"cvc\t12A", b"curve\tsecp256r1", b"max\t4294967296",
-         b"reusable\t2", b"usecvc\t", b"setpin1 1", b"setpin3\t1", b"nopurge\t0 ", b"replay\t1\r", b"\tactive\t1")
+         b"reusable\t2", b"usecvc\t", b"setpin1 1", b"setpin3\t1", b"nopurge\t0 ", b"replay\t1\r", b"\tactive\t1", b"seed\t" + b"0" * 31)
 LAST = len(GOOD)
 LINES = range(1, LAST + 1)
 

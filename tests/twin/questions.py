@@ -6,6 +6,9 @@ from typing import NamedTuple, Optional
 from twin.image import KEY_LENGTH, SIGNATURE_LENGTH, Card, is_key
 
 
+YES_OR_NO = (5, 6)  # the kinds that ask for the issuer's word
+
+
 class Question(NamedTuple):
     kind: int
     wallet_number: int
@@ -18,13 +21,13 @@ class Question(NamedTuple):
     def answer_length(self) -> int:
         if self.kind == 1:
             return KEY_LENGTH[self.curve]
-        return 1 if self.kind == 5 else SIGNATURE_LENGTH
+        return 1 if self.kind in YES_OR_NO else SIGNATURE_LENGTH
 
     def answered_by(self, answer: bytes) -> bool:
         """Whether bytes of the right length are an answer."""
         if self.kind == 1:
             return is_key(self.curve, answer)
-        return self.kind != 5 or answer in (b"\0", b"\1")
+        return self.kind not in YES_OR_NO or answer in (b"\0", b"\1")
 
 
 def question(card: Card, kind: int, message: bytes) -> Question:
@@ -46,4 +49,4 @@ def cut(answers: bytes, questions: list) -> Optional[list]:
 
 def provider_says_no(questions: list, answers: list) -> bool:
     """Check 13."""
-    return any(q.kind == 5 and answer == b"\0" for q, answer in zip(questions, answers))
+    return any(q.kind in YES_OR_NO and answer == b"\0" for q, answer in zip(questions, answers))

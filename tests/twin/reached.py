@@ -4,8 +4,8 @@ from collections import Counter
 from typing import Callable, NamedTuple
 
 from twin.bench import (
-    CHECK_WALLET, CREATE_WALLET, CURVES, NAMES, ONCE, PURGE_WALLET, READ_CARD, READ_ISSUER_DATA, READ_USER_DATA, SET_PIN, SIGN,
-    STATUSES, VALIDATE_CARD, VERIFY_CARD, WRITE_ISSUER_DATA, WRITE_USER_DATA,
+    ACTIVATE_CARD, CHECK_WALLET, CREATE_WALLET, CURVES, NAMES, ONCE, PURGE_WALLET, READ_CARD, READ_ISSUER_DATA, READ_USER_DATA, SET_PIN,
+    SIGN, STATUSES, VALIDATE_CARD, VERIFY_CARD, WRITE_ISSUER_DATA, WRITE_USER_DATA,
 )
 from twin.image import EMPTY, IMAGE_LENGTH, LOADED, PURGED, TOP_16, TOP_32, Card, decode, encode, is_card
 from twin.request import fields_of, payload_of, values_of
@@ -27,6 +27,7 @@ CALLS = {
 }
 NOT_ACTIVATED = 0
 STATES = {NOT_ACTIVATED: "not activated", **STATUSES}
+OLD_PIN1 = "refused under the PIN1 of before a reset"
 NO_WALLET = {state: f"no card: signatures and no wallet, {name}" for state, name in STATES.items() if state != LOADED}
 
 # The rows of a request whose second byte is no command, and of one that has no second byte.
@@ -46,13 +47,14 @@ REFUSED_BY = {
     WRITE_USER_DATA: HEAD | {7, 8, 9, 10, 11},
     WRITE_ISSUER_DATA: HEAD | {7, 8, 9, 11, 12, 13},
     READ_ISSUER_DATA: HEAD | {7, 11},
+    ACTIVATE_CARD: HEAD | {7, 11, 12, 13},
     OTHER: {1, 2, 3},
     NONE: {1},
 }
 DONE_IN = {
-    NOT_ACTIVATED: {READ_CARD, READ_ISSUER_DATA},
-    EMPTY: set(NAMES) - {CHECK_WALLET, SIGN, PURGE_WALLET},
-    LOADED: set(NAMES) - {CREATE_WALLET},
+    NOT_ACTIVATED: {READ_CARD, READ_ISSUER_DATA, ACTIVATE_CARD},
+    EMPTY: set(NAMES) - {CHECK_WALLET, SIGN, PURGE_WALLET, ACTIVATE_CARD},
+    LOADED: set(NAMES) - {CREATE_WALLET, ACTIVATE_CARD},
     PURGED: {READ_CARD, VERIFY_CARD, READ_USER_DATA, READ_ISSUER_DATA},
 }
 
@@ -63,14 +65,14 @@ DONE_IN = {
 class End(NamedTuple):
     """A place that a command comes to, done (0) or refused by a check: seen where the test holds.
 
-    With `after_purge` only in a history in which a purge has taken signatures.
+    With `after` only in a history in which this has happened (HAPPENED).
     """
 
     name: str
     ins: int
     reason: int
     test: Callable[[Card, Card, bytes], bool]
-    after_purge: bool = False
+    after: str = ""
 
 
 def sent(request: bytes) -> dict:
@@ -80,6 +82,10 @@ def sent(request: bytes) -> dict:
 
 def is_repeat(old: Card, new: Card, request: bytes) -> bool:
     return not {0x50, 0x51} & set(sent(request))
+
+
+def is_reset(old: Card, new: Card, request: bytes) -> bool:
+    return sent(request)[0x36] == b"\1"
 
 
 ENDS = (
@@ -128,9 +134,21 @@ ENDS = (
     End("purged, not reusable", PURGE_WALLET, 0, lambda old, new, _: new.status == PURGED),
     End("purged with no signatures held", PURGE_WALLET, 0, lambda old, new, _: old.last_signatures == b""),
     End("purged with ten signatures held", PURGE_WALLET, 0, lambda old, new, _: len(old.last_signatures) == 640),
-    End("the repeat refused after a purge", SIGN, 9, is_repeat, after_purge=True),
-    End("the repeat refused on a new wallet after a purge", SIGN, 12, is_repeat, after_purge=True),
-    End("the repeat on a new wallet after a purge", SIGN, 0, is_repeat, after_purge=True),
+    End("the repeat refused after a purge", SIGN, 9, is_repeat, after="purge"),
+    End("the repeat refused on a new wallet after a purge", SIGN, 12, is_repeat, after="purge"),
+    End("the repeat on a new wallet after a purge", SIGN, 0, is_repeat, after="purge"),
+    End("activated, PIN1 kept", ACTIVATE_CARD, 0, lambda old, new, request: sent(request)[0x36] == b"\0"),
+    End("activated, PIN1 reset", ACTIVATE_CARD, 0, is_reset),
+    End("PIN1 reset, the default already", ACTIVATE_CARD, 0,
+        lambda old, new, request: is_reset(old, new, request) and old.pin1 == new.pin1),
+    End("PIN1 reset where SET_PIN may not", ACTIVATE_CARD, 0,
+        lambda old, new, request: is_reset(old, new, request) and not old.pin1_may_change),
+    End("activated after an unsigned confirmation", ACTIVATE_CARD, 0, lambda old, new, _: True, after="no"),
+    End("FE refused over its fields, not activated", ACTIVATE_CARD, 11, lambda old, new, _: not old.activated),
+    End("FE refused over its fields, activated", ACTIVATE_CARD, 11, lambda old, new, _: bool(old.activated)),
+    *(End(f"FE refused on a card that is {name}", ACTIVATE_CARD, 12, lambda old, new, _, status=status: old.status == status)
+      for status, name in STATUSES.items()),
+    *(End(f"{NAMES[ins]} under a reset PIN1", ins, 0, lambda old, new, _: True, after="reset") for ins in (READ_CARD, CREATE_WALLET, SIGN)),
     *(End(f"{NAMES[ins]} done by a request of 1,024 bytes", ins, 0, lambda old, new, request: len(request) == 1024)
       for ins in (READ_CARD, SIGN, WRITE_USER_DATA, WRITE_ISSUER_DATA)),
     *(End(f"{NAMES[ins]} refused at 1,025 bytes", ins, 1, lambda old, new, request: len(request) == 1025)
@@ -151,6 +169,14 @@ def state_of(card: Card) -> int:
     return card.status if card.activated else NOT_ACTIVATED
 
 
+# What a later tap of a history may come after.
+HAPPENED = {
+    "purge": lambda row, reason, old, new: old.last_signatures != b"" and new.last_signatures == b"",  # which nothing else does
+    "reset": lambda row, reason, old, new: new.activated > old.activated and new.pin1 != old.pin1,
+    "no": lambda row, reason, old, new: (row, reason) == (ACTIVATE_CARD, 13),
+}
+
+
 def tags_twice(request: bytes) -> list:
     """The tags that stand twice in a request of a good length; none where it is malformed."""
     return [tag for tag, values in (values_of(payload_of(request)) or {}).items() if len(values) > 1]
@@ -160,11 +186,12 @@ class Reached:
     """How often each thing was reached. Sums of two are made by `update` of `times`."""
 
     def __init__(self):
-        self.times, self.purged = Counter(), False
+        self.times = Counter()
+        self.begun()
 
     def begun(self):
         """A history begins."""
-        self.purged = False
+        self.happened, self.old_pin1 = set(), None
 
     def called(self, call: str, request: bytes, result):
         """Every call of ask and of settle, whatever it came to."""
@@ -184,9 +211,13 @@ class Reached:
         if reason in (0, 5):
             self.stood_twice(row, reason, tags_twice(request))
         for end in ENDS_OF.get((row, reason), ()):
-            self.times["end", end.name] += end.test(before, after, request) and (self.purged or not end.after_purge)
-        if before.last_signatures and not after.last_signatures:  # which only a purge does
-            self.purged = True
+            self.times["end", end.name] += end.test(before, after, request) and (not end.after or end.after in self.happened)
+        if reason == 6:
+            self.times["end", OLD_PIN1] += sent(request).get(0x10, b"") == self.old_pin1
+        happened = {name for name, test in HAPPENED.items() if test(row, reason, before, after)}
+        if "reset" in happened:
+            self.old_pin1 = before.pin1
+        self.happened |= happened
 
     def no_card(self, image: bytes):
         """A tap on what is no card: counted where signatures without a wallet are all that is wrong."""
@@ -202,7 +233,7 @@ class Reached:
             self.times["twice", row, *tags] += 1
 
 
-END_NAMES = (*(end.name for end in ENDS), *NO_WALLET.values())
+END_NAMES = (*(end.name for end in ENDS), OLD_PIN1, *NO_WALLET.values())
 ENDS_OF = {}
 for one in ENDS:
     ENDS_OF.setdefault((one.ins, one.reason), []).append(one)

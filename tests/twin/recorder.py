@@ -1,6 +1,6 @@
 """Recordings as the program `plays` reads them, and the way back from its input to the recordings."""
 
-from twin.bench import CID, CVC, DRAW, PIN1, PIN2, Provider
+from twin.bench import CID, CVC, DRAW, PIN1, PIN2, SEED, Provider
 from twin.card import ask, personalise
 from twin.recording import Play
 from twin.script import hexed
@@ -8,7 +8,7 @@ from twin.script import hexed
 LONGEST_INPUT = 8300
 USUAL_SHEET = dict(
     cid=hexed(CID), pin1=hexed(PIN1), pin2=hexed(PIN2), cvc=CVC.decode(), curve="secp256k1", max="1000", reusable="1",
-    usecvc="0", setpin1="1", setpin2="1", nopurge="0", replay="1", active="1",
+    usecvc="0", setpin1="1", setpin2="1", nopurge="0", replay="1", active="1", seed=hexed(SEED),
 )
 
 

@@ -4,10 +4,10 @@ import os
 import sys
 
 sys.path.insert(0, os.path.dirname(os.path.dirname(os.path.abspath(__file__))))
-from twin import selftest_handover, selftest_plays, selftest_reasons, selftest_twice
+from twin import selftest_activation, selftest_handover, selftest_plays, selftest_reasons, selftest_twice
 from twin.by_hand import (
-    ACCESS, CHALLENGE, CID, CID_FIELD, CONFIRMED, FRESH, KEY, KEY_CHALLENGE, KEY_SALT, PIN1, PIN2, SALT, SHEET_LINES, WITH_WALLET,
-    WRITTEN, hashes, questions, refused, sheet, tapped, word_of,
+    ACCESS, CHALLENGE, CID, CID_FIELD, CONFIRMED, FRESH, KEY, KEY_CHALLENGE, KEY_SALT, PIN1, PIN2, SALT, SEED, SHEET_LINES,
+    WITH_WALLET, WRITTEN, hashes, questions, refused, sheet, tapped, word_of,
 )
 from twin.card import is_card, personalise, settle
 from twin.image import EMPTY, LOADED, PURGED, decode, encode
@@ -30,25 +30,27 @@ def sheet_makes_a_fresh_card():
     card = decode(image)
     assert answer == 0 and is_card(image) and card.cvc == b"007" and card.max_signatures == TOP
     assert (card.curve, card.cvc_used, card.activated, card.status) == (2, 1, 0, EMPTY)
-    assert image[80:87].hex() == "01010101000100" and image[87:] == b"\1" + bytes(2341)
+    assert image[80:96].hex().upper() == SEED and image[96:103].hex() == "01010101000100" and image[103:] == b"\1" + bytes(2341)
 
 
 def sheet_bad_lines():
     rows = (("cid", "AA0000000001667"), ("pin1", PIN1.replace("1", "a")), ("pin2", PIN2 + "2"), ("cvc", "12"),
             ("curve", "secp256r1"), ("max", "0"), ("reusable", "2"), ("usecvc", ""), ("setpin1", "01"),
-            ("setpin2", " 1"), ("nopurge", "1 "), ("replay", "1\r"), ("active", "yes"))
+            ("setpin2", " 1"), ("nopurge", "1 "), ("replay", "1\r"), ("active", "yes"), ("seed", SEED[:-1]))
     for line, (name, value) in enumerate(rows, 1):
         assert personalise(sheet(**{name: value})) == (line, None), name
     for value in ("00", "01", "+1", "4294967296", "10000000000", ""):
         assert personalise(sheet(max=value)) == (6, None), value
+    for value in ("", SEED + "0", SEED + "00", SEED[:-2], SEED.lower(), SEED[:-1] + "G", SEED + " ", " " + SEED):
+        assert personalise(sheet(seed=value)) == (14, None), value
 
 
 def sheet_missing_and_surplus():
     lines = [line.encode() + b"\n" for line in SHEET_LINES]
-    for count in range(13):
+    for count in range(14):
         assert personalise(b"".join(lines[:count])) == (count + 1, None)
-    assert personalise(b"".join(lines)[:-1]) == (13, None)
-    assert personalise(b"".join(lines) + b"\n") == (14, None)
+    assert personalise(b"".join(lines)[:-1]) == (14, None)
+    assert personalise(b"".join(lines) + b"\n") == (15, None)
     assert personalise(b"", 4095) == (99, None)
     assert personalise(b"\n" + b"".join(lines)) == (1, None)
 
@@ -159,7 +161,7 @@ def read_card():
     assert response == (CID_FIELD + "020102" + "0509736563703235366B31" + "630400000000"
                         + "6041" + KEY + "620400000007" + "9000")
     not_active = FRESH._replace(activated=0)
-    assert tapped(not_active, "F2", "1020" + PIN1)[0] == CID_FIELD + "020101" + "3A0100" + "9000"
+    assert tapped(not_active, "F2", "1020" + PIN1)[0] == CID_FIELD + "020101" + "3A0100" + "3B10" + SEED + "9000"
 
 
 def create_wallet():
@@ -255,7 +257,7 @@ def what_is_a_card():
     for change in changes:
         assert not is_card(encode(WITH_WALLET._replace(**change))), change
     # Set to 11: a counter's byte, a length of 11 (zeros are data too), lengths of 2,816, eleven signatures.
-    for place, still in ((164, True), (179, True), (692, False), (1206, False), (1788, False)):
+    for place, still in ((180, True), (195, True), (708, False), (1222, False), (1804, False)):
         image = bytearray(encode(FRESH))
         image[place] = 11
         assert is_card(bytes(image)) == still, place
@@ -268,7 +270,7 @@ TESTS = (
     slip_repeat_is_free,
     read_card, create_wallet, check_wallet, set_pin, verify_card, validate_card, purge_wallet, user_data,
     read_issuer_data, what_is_a_card,
-    *selftest_reasons.TESTS, *selftest_twice.TESTS, *selftest_handover.TESTS, *selftest_plays.TESTS,
+    *selftest_reasons.TESTS, *selftest_twice.TESTS, *selftest_handover.TESTS, *selftest_activation.TESTS, *selftest_plays.TESTS,
 )
 
 

@@ -1,6 +1,7 @@
 """Checks of the twin's play of recordings against lines worked out by hand. selftest.py runs them."""
 
-from twin.by_hand import ACCESS, CID_FIELD, CONFIRMED, DRAW, KEY, PIN1, hashes, request, sheet
+from twin.bench import DEFAULT_PIN1
+from twin.by_hand import ACCESS, CID_FIELD, CONFIRMED, DRAW, KEY, PIN1, SEED, hashes, request, sheet
 from twin.recording import played
 
 READ_EMPTY = CID_FIELD + "020101" + "0509736563703235366B31" + "630400000000" + "9000"
@@ -80,6 +81,18 @@ def play_new_codes():
     all_same("6\t1\t1\t1\n", create(), sign(1, signed(1, 6, 1)), new, sign(1, "6A86"))
 
 
+def play_activation():
+    """FE is no part of the sums; the taps after it are played under the PIN1 that it has set."""
+    default, fields = DEFAULT_PIN1.hex().upper(), "360101" + "3440" + "11" * 64
+    activate = tap("FE", ACCESS + fields, "01", READ_EMPTY)
+    late = [tap(ins, payload.replace(PIN1, default), answers, expected) for ins, payload, answers, expected in (
+        ("F8", CONFIRMED, KEY, CREATED), ("FB", CONFIRMED + hashes(2), "77" * 128, signed(2, 6, 2)), ("FE", ACCESS + fields, "EE", "6985"))]
+    asleep = create("6985"), tap("FE", ACCESS + fields, "00", "6286"), tap("FE", ACCESS + fields, "02", "4")
+    all_same(NO_SUMS, *asleep, activate, active="0")
+    all_same("6\t2\t1\t2\n", *asleep, activate, create("6A86"), *late, sign(1, "6A86"), active="0")
+    all_same(NO_SUMS, tap("FE", ACCESS + fields, "01", "6985"))
+
+
 def play_refusal_4():
     unanswered = tap("FB", CONFIRMED + hashes(2), "", "4")
     all_same("6\t2\t1\t2\n", create(), unanswered, sign(2, signed(2, 6, 2)), unanswered)
@@ -100,40 +113,41 @@ def play_bad_lines():
     rows += tuple(f"00F2\t{draw}\t{one}" for one in ("", "6", "670", "6a86", "444", "4 "))
     for row in rows:
         end = (row + "\n" + SHORT_LINE + "\n").encode()
-        prints(sheet() + end, "line\t14\n")
-        prints(recording(SHORT, SHORT) + end, "1\tsame\t6700\n", "2\tsame\t6700\n", "line\t16\n")
+        prints(sheet() + end, "line\t15\n")
+        prints(recording(SHORT, SHORT) + end, "1\tsame\t6700\n", "2\tsame\t6700\n", "line\t17\n")
 
 
 def play_bad_sheets():
     prints(b"", "line\t1\n")
     prints(b"\n" * 30, "line\t1\n")
-    prints(sheet()[:-1], "line\t13\n")
+    prints(sheet()[:-1], "line\t14\n")
     prints(recording(SHORT, max="0"), "line\t6\n")
     prints(recording(SHORT).replace(b"replay\t1\n", b""), "line\t12\n")
     prints(recording(SHORT).replace(b"active\t1\n", b""), "line\t13\n")
+    prints(recording(SHORT).replace(f"seed\t{SEED}\n".encode(), b""), "line\t14\n")
 
 
 def play_last_line_feed():
-    prints(recording(SHORT) + SHORT_LINE.encode(), "1\tsame\t6700\n", "line\t15\n")
-    prints(recording(SHORT) + b"0", "1\tsame\t6700\n", "line\t15\n")
+    prints(recording(SHORT) + SHORT_LINE.encode(), "1\tsame\t6700\n", "line\t16\n")
+    prints(recording(SHORT) + b"0", "1\tsame\t6700\n", "line\t16\n")
 
 
 def play_long_lines():
     """Of 8,192 bytes, 67 are tabs and the draw, and one is the 4 that makes the number even."""
     prints(recording(("00" * 4062, "", "4")), "1\tother\t6700\n", NO_SUMS)
     prints(recording(("00" * 4060, "", "6700")), "1\tsame\t6700\n", NO_SUMS)
-    prints(recording(("00" * 4061, "", "6700")), "line\t14\n")
+    prints(recording(("00" * 4061, "", "6700")), "line\t15\n")
     prints(recording(SHORT, ("00F2", "00" * 4060, "4")), "1\tsame\t6700\n", "2\tother\t6700\n", NO_SUMS)
-    prints(recording(SHORT, ("00F2", "00" * 4061, "4")), "1\tsame\t6700\n", "line\t15\n")
+    prints(recording(SHORT, ("00F2", "00" * 4061, "4")), "1\tsame\t6700\n", "line\t16\n")
 
 
 def play_many_taps():
     lines = [f"{n}\tsame\t6700\n" for n in range(1, 10_001)]
     prints(recording(*[SHORT] * 10_000), *lines, NO_SUMS)
-    prints(recording(*[SHORT] * 10_001), *lines, "line\t10014\n")
+    prints(recording(*[SHORT] * 10_001), *lines, "line\t10015\n")
 
 
 TESTS = (
-    play_reads, play_sums, play_sums_of_wallets, play_repeats_of_wallets, play_refused_signs, play_new_codes, play_refusal_4, play_others,
-    play_bad_lines, play_bad_sheets, play_last_line_feed, play_long_lines, play_many_taps,
+    play_reads, play_sums, play_sums_of_wallets, play_repeats_of_wallets, play_refused_signs, play_new_codes, play_activation,
+    play_refusal_4, play_others, play_bad_lines, play_bad_sheets, play_last_line_feed, play_long_lines, play_many_taps,
 )

@@ -27,6 +27,7 @@ DONE = (
     ("E0", FRESH, [PIN1_FIELD, CID_FIELD, PIN2_FIELD, "2A0141", "2B0142", "2C0400000003", "2D0400000004"], ""),
     ("F6", FRESH, [PIN1_FIELD, CID_FIELD, "230100", *NOTE], "01"),
     ("F7", FRESH, [PIN1_FIELD, CID_FIELD, "230100"], ""),
+    ("FE", FRESH._replace(activated=0), [PIN1_FIELD, CID_FIELD, "360101", "3440" + "11" * 64], "01"),
 )
 
 

@@ -1,4 +1,4 @@
-"""The personalisation sheet: thirteen lines, and the fresh card that they describe."""
+"""The personalisation sheet: fourteen lines, and the fresh card that they describe."""
 
 import re
 
@@ -19,6 +19,7 @@ SHEET = (
     (b"nopurge", FLAG),
     (b"replay", FLAG),
     (b"active", FLAG),
+    (b"seed", rb"[0-9A-F]{32}"),
 )
 AFTER_SHEET = len(SHEET) + 1
 NO_ROOM = 99
@@ -41,9 +42,10 @@ def personalise(sheet: bytes, room: int = IMAGE_ROOM) -> tuple:
     return 0, encode(fresh_card(*values))
 
 
-def fresh_card(cid, pin1, pin2, cvc, curve, most, *flags) -> Card:
+def fresh_card(cid, pin1, pin2, cvc, curve, most, *flags_and_seed) -> Card:
     def unhex(digits):
         return bytes.fromhex(digits.decode())
 
     named = {name: value for value, name in CURVE_NAME.items()}
-    return Card(unhex(pin1), unhex(pin2), unhex(cid), cvc, named[curve], int(most), *map(int, flags))
+    *flags, seed = flags_and_seed
+    return Card(unhex(pin1), unhex(pin2), unhex(cid), cvc, named[curve], int(most), unhex(seed), *map(int, flags))

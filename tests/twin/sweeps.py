@@ -1,13 +1,16 @@
-"""What is gone through place by place: images, lent buffers, codes, sheets."""
+"""What is gone through place by place: images, lent buffers, codes, confirmations, sheets."""
 
 from itertools import product
 
 from twin import card as twin
-from twin.bench import CID, CREATE_WALLET, CURVES, CVC, NAMES, OWN_FIELDS, PIN1, PIN2, READ_CARD, Provider, full, off_by_last, plain
-from twin.chance import any_card
+from twin.bench import (
+    ACCESS, ACTIVATE_CARD, CID, CURVES, CVC, NAMES, OWN_FIELDS, PIN1, PIN2, READ_CARD, Provider, confirmation, fresh, full, off_by_last,
+    plain, ready,
+)
+from twin.chance import any_card, not_activated
 from twin.chance_requests import good_draft
 from twin.chance_sheets import damaged_sheet, good_sheet
-from twin.image import EMPTY, LOADED, Card, encode
+from twin.image import Card, encode
 from twin.pair import ROOMS, Pair
 from twin.request import Tag
 
@@ -21,9 +24,17 @@ def poked(image: bytes, at: int, value: int) -> bytes:
 
 
 def images(pair: Pair):
-    """One card by chance: every byte of its image set to some other values."""
+    """One card by chance."""
+    every_byte(pair, any_card(pair.chance))
+
+
+def images_not_activated(pair: Pair):
+    every_byte(pair, not_activated(pair.chance))
+
+
+def every_byte(pair: Pair, card: Card):
+    """Every byte of its image set to some other values."""
     chance = pair.chance
-    card = any_card(chance)
     image, request, draw = encode(card), read_request(card), chance.randbytes(32)
     for at, old in enumerate(image):
         for value in {0, 1, 2, 255, old ^ 1, old ^ 128, chance.randrange(256)} - {old}:
@@ -77,11 +88,25 @@ def codes(pair: Pair):
     curve, draw = pair.chance.choice(list(CURVES)), pair.chance.randbytes(32)
     sent = list(product(sendings(Tag.PIN1, PIN1), sendings(Tag.PIN2, PIN2), sendings(Tag.CVC, CVC)))
     for ins, own in OWN_FIELDS.items():
-        image = encode(full(EMPTY if ins == CREATE_WALLET else LOADED, curve, cvc_used=1))
+        image = encode(ready(ins, curve, full, cvc_used=1))
         for (pin1, pin2, cvc), fields in product(sent, (own, ())):
             request = plain(ins, *pin1, (Tag.CID, CID), *pin2, *cvc, *fields)
             asked = pair.ask(image, request, draw, ROOMS[0])
             pair.settle(image, request, draw, Provider().answers(asked.questions), *ROOMS[1:])
+
+
+def confirmations(pair: Pair):
+    """ACTIVATE_CARD with every Reset_PIN1 of a byte and of other lengths, every length of the signature, every answer."""
+    draw, right = pair.chance.randbytes(32), dict(confirmation())
+    every = [bytes([value]) for value in range(256)] + [b"", b"\0\0", b"\0\1", b"\1\0", b"\1\1", bytes(64)]
+    fields = [right | {Tag.RESET_PIN1: reset} for reset in every]
+    fields += [right | {Tag.ACTIVATION_SIGNATURE: bytes(length)} for length in range(300)]
+    for activated in (0, 1):
+        image = encode(fresh(pair.chance.choice(list(CURVES)), activated=activated))
+        sent = [plain(ACTIVATE_CARD, *ACCESS, *one.items()) for one in fields]
+        for request, answer in [(one, b"\1") for one in sent] + [(sent[0], one) for one in every]:
+            pair.ask(image, request, draw, ROOMS[0])
+            pair.settle(image, request, draw, answer, *ROOMS[1:])
 
 
 def sheets(pair: Pair):

@@ -45,6 +45,7 @@ fn fits(cmd: Command, img: &[u8], p: &[u8], places: &Places, answers: &[u8]) -> 
         Command::WriteUserData => no_answer(answers),
         Command::WriteIssuerData => yes_or_no(answers),
         Command::ReadIssuerData => no_answer(answers),
+        Command::ActivateCard => yes_or_no(answers),
     }
 }
 
@@ -80,6 +81,7 @@ fn check_answers(p: &[u8], places: &Places, a: &[u8]) -> bool
     a.len() == Last::SIGNATURE_SIZE
 }
 
+// To a question of kind 5 or 6.
 fn yes_or_no(a: &[u8]) -> bool
     ensures { λ r. ⌜ ((number curve : ℕ) (m : List (List ℕ)) → r ≡ shaped (question 5 number curve m ∷ []) (now (a .entry))) ⌝ }
 {
@@ -121,5 +123,6 @@ fn is_confirmed(cmd: Command, answers: &[u8]) -> bool
         Command::WriteUserData => true,
         Command::WriteIssuerData => wire::get8(answers, 0) == 1,
         Command::ReadIssuerData => true,
+        Command::ActivateCard => wire::get8(answers, 0) == 1,
     }
 }

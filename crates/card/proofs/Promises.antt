@@ -1,6 +1,7 @@
 -- NO TWO OUTCOMES MEET A PROMISE of card: a theorem about each public function's own contract. Assumes nothing.
 use Rattle.wire.specs.OneOutcome.{OneOutcome, plain}
 use Rattle.wire.proofs.Unique.{one-equal}
+use Rattle.card.proofs.Flags.activate as flags-activate
 use Rattle.card.proofs.Wallet.create as wallet-create
 use Rattle.card.proofs.Wallet.sign as wallet-sign
 use Rattle.card.proofs.Wallet.purge as wallet-purge
@@ -8,6 +9,9 @@ use Rattle.card.proofs.Counters.signed as counters-signed
 use Rattle.card.proofs.Counters.checked as counters-checked
 use Rattle.card.proofs.Counters.validated as counters-validated
 use Rattle.card.proofs.Card.fresh as card-fresh
+
+pub flags-activate-one : OneOutcome flags-activate.ended (λ M. flags-activate.clauses {M = M})
+flags-activate-one M 𝓤 H A m r κs a g z z′ ws ws′ = plain 𝓤 (λ p q. one-equal p q)
 
 pub wallet-create-one : OneOutcome wallet-create.ended (λ M. wallet-create.clauses {M = M})
 wallet-create-one M 𝓤 H A m r κs a g z z′ ws ws′ = plain 𝓤 (λ p q. one-equal p q)

@@ -16,7 +16,7 @@ use Rattle.card.specs.declared.Front.{Front}
 use Rattle.card.specs.declared.Held.{Held}
 use Rattle.card.specs.declared.Face.{Face}
 use Rattle.card.specs.declared.Card.{Card}
-use Rattle.card.specs.Layout.{pinSize, cidSize, cvcSize, keyRoom, dataRoom, signatureSize, lastRoom, blockWidth}
+use Rattle.card.specs.Layout.{pinSize, cidSize, cvcSize, seedSize, keyRoom, dataRoom, signatureSize, lastRoom, blockWidth}
 use Rattle.card.specs.Layout.{codesAt, fixedAt, flagsAt, walletAt, keyAt, countersAt, userAt, protectedAt, issuerAt, lastAt}
 
 unfoldable pub encCodes : Codes → List ℕ
@@ -26,7 +26,7 @@ abbrev pub decCodes : List ℕ → Codes
 decCodes l = record { pin1 = part l codesAt pinSize; pin2 = part l (codesAt + pinSize) pinSize }
 
 unfoldable pub encFixed : Fixed → List ℕ
-encFixed x = x .cid ++ x .cvc ++ be1 (x .curve) ++ be4 (x .max)
+encFixed x = x .cid ++ x .cvc ++ be1 (x .curve) ++ be4 (x .max) ++ x .seed
 
 abbrev pub decFixed : List ℕ → Fixed
 decFixed l =
@@ -35,6 +35,7 @@ decFixed l =
       cvc = part l (fixedAt + 8) cvcSize;
       curve = getD l (fixedAt + 11) 0;
       max = num32 l (fixedAt + 12);
+      seed = part l (fixedAt + 16) seedSize;
     }
 
 unfoldable pub encFlags : Flags → List ℕ

@@ -2,7 +2,7 @@
 -- `card` has constants of the same names. Assumes nothing.
 use Prim.Native.Nat.{ℕ, _+_, _*_}
 
--- LIMITS, 01 "What the card is made of"
+-- LIMITS, 01 "What the card is made of"; the seed, 02 Ask 1
 abbrev pub pinSize : ℕ
 pinSize = 32
 
@@ -11,6 +11,9 @@ cidSize = 8
 
 abbrev pub cvcSize : ℕ
 cvcSize = 3
+
+abbrev pub seedSize : ℕ
+seedSize = 16
 
 -- a key of secp256k1, which is the longer one, and of ed25519
 abbrev pub keyRoom : ℕ
@@ -44,7 +47,7 @@ abbrev pub codesWidth : ℕ
 codesWidth = pinSize + pinSize
 
 abbrev pub fixedWidth : ℕ
-fixedWidth = cidSize + cvcSize + 1 + 4
+fixedWidth = cidSize + cvcSize + 1 + 4 + seedSize
 
 abbrev pub flagsWidth : ℕ
 flagsWidth = 7

@@ -9,7 +9,7 @@ use Rattle.card.specs.declared.Front.{Front}
 use Rattle.card.specs.declared.Held.{Held}
 use Rattle.card.specs.declared.Face.{Face}
 use Rattle.card.specs.declared.Card.{Card}
-use Rattle.card.specs.Layout.{pinSize, cidSize, cvcSize, keyRoom, dataRoom, signatureSize, lastRoom}
+use Rattle.card.specs.Layout.{pinSize, cidSize, cvcSize, seedSize, keyRoom, dataRoom, signatureSize, lastRoom}
 
 pub record ShapeCodes (x : Codes) : Type 0 where
   pub pin1 : length (x .pin1) ≡ pinSize
@@ -18,6 +18,7 @@ pub record ShapeCodes (x : Codes) : Type 0 where
 pub record ShapeFixed (x : Fixed) : Type 0 where
   pub cid : length (x .cid) ≡ cidSize
   pub cvc : length (x .cvc) ≡ cvcSize
+  pub seed : length (x .seed) ≡ seedSize
 
 pub record ShapeIssuer (x : Issuer) : Type 0 where
   pub block : length (x .block .bytes) ≡ dataRoom

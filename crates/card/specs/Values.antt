@@ -2,7 +2,7 @@
 -- the commands see to it that nothing is lost. Assumes nothing.
 use Prim.Native.Nat.{ℕ, _+_, _-_, _*_, _/_, _%_}
 use mathlib.Core.Bool.{cond}
-use mathlib.Core.List.{List}
+use mathlib.Core.List.{List, [], _∷_}
 use lib.ListN.{length, replicate}
 use lib.Dec.{eqb, ltb}
 use Rattle.wire.specs.Wire.{part, pad}
@@ -19,7 +19,13 @@ use Rattle.card.specs.declared.Face.{Face}
 use Rattle.card.specs.declared.Front.{Front}
 use Rattle.card.specs.declared.Held.{Held}
 use Rattle.card.specs.declared.Card.{Card}
-use Rattle.card.specs.Layout.{pinSize, keyRoom, dataRoom, signatureSize, lastRoom, top32}
+use Rattle.card.specs.Layout.{keyRoom, dataRoom, signatureSize, lastRoom, top32}
+
+-- THE DEFAULT PIN1: SHA-256 of `000000`, worked out by tests/default-pin1.py
+abbrev pub defaultPIN1 : List ℕ
+defaultPIN1 =
+    0x91 ∷ 0xB4 ∷ 0xD1 ∷ 0x42 ∷ 0x82 ∷ 0x3F ∷ 0x7D ∷ 0x20 ∷ 0xC5 ∷ 0xF0 ∷ 0x8D ∷ 0xF6 ∷ 0x91 ∷ 0x22 ∷ 0xDE ∷ 0x43 ∷
+    0xF3 ∷ 0x5F ∷ 0x05 ∷ 0x7A ∷ 0x98 ∷ 0x8D ∷ 0x96 ∷ 0x19 ∷ 0xF6 ∷ 0xD3 ∷ 0x13 ∷ 0x84 ∷ 0x85 ∷ 0xC9 ∷ 0xA2 ∷ 0x03 ∷ []
 
 -- kept in one, two or four bytes
 abbrev pub u8 : ℕ → ℕ
@@ -58,6 +64,23 @@ checkedOnce x =
 -- F4: it rises
 abbrev pub validatedOnce : Counters → Counters
 validatedOnce x = record { checks = x .checks; validations = u16 (x .validations + 1); user = x .user; protected = x .protected }
+
+-- THE FLAGS. FE: activated, for good
+abbrev pub activated : Flags → Flags
+activated g =
+    record {
+      reusable = g .reusable;
+      usecvc = g .usecvc;
+      setpin1 = g .setpin1;
+      setpin2 = g .setpin2;
+      nopurge = g .nopurge;
+      replay = g .replay;
+      active = 1;
+    }
+
+-- THE CODES. FE with Reset_PIN1: PIN1 becomes its default
+abbrev pub resetPIN1 : Codes → Codes
+resetPIN1 x = record { pin1 = defaultPIN1; pin2 = x .pin2 }
 
 -- WHAT IS HELD: bytes with their size, and room that is zero after them
 abbrev pub heldKey : List ℕ → Key
@@ -121,6 +144,11 @@ fronted x f = record { front = x; held = f .held; last = f .last }
 
 abbrev pub holding : Held → Face → Face
 holding x f = record { front = f .front; held = x; last = f .last }
+
+abbrev pub withFlags : Flags → Face → Face
+withFlags x f =
+    let g : Front = f .front in
+    fronted (record { fixed = g .fixed; flags = x; wallet = g .wallet; key = g .key; counters = g .counters }) f
 
 abbrev pub withWallet : Wallet → Face → Face
 withWallet x f =

@@ -7,7 +7,7 @@ use crate::Last;
 
 pub const CODES_WIDTH: usize = Codes::PIN_SIZE + Codes::PIN_SIZE;
 
-pub const FIXED_WIDTH: usize = Fixed::CID_SIZE + Fixed::CVC_SIZE + 1 + 4;
+pub const FIXED_WIDTH: usize = Fixed::CID_SIZE + Fixed::CVC_SIZE + 1 + 4 + Fixed::SEED_SIZE;
 
 pub const FLAGS_WIDTH: usize = 7;
 

@@ -7,7 +7,7 @@ ghost use mathlib.Core.Bool.{cond};
 ghost use lib.Dec.{ltb};
 ghost use Prim.Native.Nat.{_+_, _-_};
 ghost use Rattle.card.specs.Layout.{top32};
-ghost use Rattle.card.specs.Values.{u32, created, spent, purged, afterPurge, risen, checkedOnce, validatedOnce, fresh};
+ghost use Rattle.card.specs.Values.{u32, activated, created, spent, purged, afterPurge, risen, checkedOnce, validatedOnce, fresh};
 
 // The codes: what no answer may tell.
 pub struct Codes {
@@ -20,6 +20,7 @@ pub struct Fixed {
     pub cvc: [u8; Fixed::CVC_SIZE],
     pub curve: u8,
     pub max: u32,
+    pub seed: [u8; Fixed::SEED_SIZE],
 }
 
 pub struct Flags {
@@ -100,6 +101,42 @@ pub struct Card {
 
 impl Codes {
     pub const PIN_SIZE: usize = 32;
+
+    // SHA-256 of 000000.
+    pub const DEFAULT_PIN1: [u8; Codes::PIN_SIZE] = [
+        0x91,
+        0xB4,
+        0xD1,
+        0x42,
+        0x82,
+        0x3F,
+        0x7D,
+        0x20,
+        0xC5,
+        0xF0,
+        0x8D,
+        0xF6,
+        0x91,
+        0x22,
+        0xDE,
+        0x43,
+        0xF3,
+        0x5F,
+        0x05,
+        0x7A,
+        0x98,
+        0x8D,
+        0x96,
+        0x19,
+        0xF6,
+        0xD3,
+        0x13,
+        0x84,
+        0x85,
+        0xC9,
+        0xA2,
+        0x03,
+    ];
 }
 
 impl Fixed {
@@ -107,10 +144,30 @@ impl Fixed {
 
     pub const CVC_SIZE: usize = 3;
 
+    // The activation seed.
+    pub const SEED_SIZE: usize = 16;
+
     // The curves.
     pub const SECP256K1: u8 = 1;
 
     pub const ED25519: u8 = 2;
+}
+
+impl Flags {
+    // FE: activated, for good.
+    pub fn activate(self) -> Flags
+        ensures { λ r. ⌜ r ≡ activated self ⌝ }
+    {
+        Flags {
+            reusable: self.reusable,
+            usecvc: self.usecvc,
+            setpin1: self.setpin1,
+            setpin2: self.setpin2,
+            nopurge: self.nopurge,
+            replay: self.replay,
+            active: 1,
+        }
+    }
 }
 
 impl Key {

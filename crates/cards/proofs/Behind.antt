@@ -10,7 +10,7 @@ use lib.Dec.{leb, eqb, lit≤, lit<}
 use borrow.Author.Tests.{leb-true, leb-false}
 use Rattle.wire.specs.Wire.{part, num16, num32}
 use Rattle.wire.proofs.Laws.{by-cases, part-plain}
-use Rattle.card.specs.Layout.{cidSize, cvcSize, keyRoom, dataRoom, signatureSize, lastRoom, blockWidth, codesWidth, imageSize}
+use Rattle.card.specs.Layout.{cidSize, cvcSize, seedSize, keyRoom, dataRoom, signatureSize, lastRoom, blockWidth, codesWidth, imageSize}
 use Rattle.card.specs.Layout.{fixedAt, flagsAt, walletAt, keyAt, countersAt, userAt, protectedAt, issuerAt, lastAt}
 use Rattle.card.specs.Image.{decBlock, decode}
 use Rattle.card.specs.Valid.{okFace, isCard}
@@ -77,6 +77,7 @@ module _ (l m : List ℕ) (same : drop codesWidth l ≡ drop codesWidth m) where
             cvc = array (fixedAt + 8) cvcSize (lit≤ tt) (lit< tt) i;
             curve = byte (fixedAt + 11) (lit≤ tt) i;
             max = four (fixedAt + 12) (lit≤ tt) i;
+            seed = array (fixedAt + 16) seedSize (lit≤ tt) (lit< tt) i;
           };
           flags = record {
             reusable = byte flagsAt (lit≤ tt) i;

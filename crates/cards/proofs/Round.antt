@@ -23,7 +23,7 @@ use Rattle.card.specs.declared.Front.{Front}
 use Rattle.card.specs.declared.Held.{Held}
 use Rattle.card.specs.declared.Face.{Face}
 use Rattle.card.specs.declared.Card.{Card}
-use Rattle.card.specs.Layout.{pinSize, cidSize, cvcSize, keyRoom, dataRoom, signatureSize, lastRoom}
+use Rattle.card.specs.Layout.{pinSize, cidSize, cvcSize, seedSize, keyRoom, dataRoom, signatureSize, lastRoom}
 use Rattle.card.specs.Layout.{codesWidth, fixedWidth, flagsWidth, walletWidth, keyWidth, countersWidth, blockWidth, issuerWidth, lastWidth}
 use Rattle.card.specs.Layout.{codesAt, fixedAt, flagsAt, walletAt, keyAt, countersAt, userAt, protectedAt, issuerAt, lastAt, imageSize}
 use Rattle.card.specs.Image.{encCodes, encFixed, encFlags, encWallet, encKey, encCounters, encBlock, encIssuer, encLast, encFront, encHeld, encFace, encode}
@@ -48,7 +48,8 @@ module _ (l : List ℕ) where
       let p2 = peel l (fixedAt + 8) cvcSize (x .cvc) _ (p1 .1) (s .cvc) (lit< tt) in
       let p3 = peel8 l (fixedAt + 11) (x .curve) _ (p2 .1) in
       let p4 = peel32 l (fixedAt + 12) (x .max) _ (p3 .1) in
-      (λ i. record { cid = p1 .0 i; cvc = p2 .0 i; curve = p3 .0 i; max = p4 .0 i }, p4 .1)
+      let p5 = peel l (fixedAt + 16) seedSize (x .seed) _ (p4 .1) (s .seed) (lit< tt) in
+      (λ i. record { cid = p1 .0 i; cvc = p2 .0 i; curve = p3 .0 i; max = p4 .0 i; seed = p5 .0 i }, p5 .1)
 
   flags : (x : Flags) (rest : List ℕ) → drop flagsAt l ≡ encFlags x ++ rest → (decFlags l ≡ x) × (drop walletAt l ≡ rest)
   unfolding encFlags
@@ -180,7 +181,8 @@ module _ (l : List ℕ) (long : length l ≡ imageSize) (b : Bytes l) where
   of-fixed =
       let p1 = beside l fixedAt cidSize cvcSize (array fixedAt cidSize (lit≤ tt)) (array (fixedAt + 8) cvcSize (lit≤ tt)) in
       let p2 = beside l fixedAt 11 1 p1 (byte (fixedAt + 11) (lit≤ tt)) in
-      beside l fixedAt 12 4 p2 (four (fixedAt + 12) (lit≤ tt))
+      let p3 = beside l fixedAt 12 4 p2 (four (fixedAt + 12) (lit≤ tt)) in
+      beside l fixedAt 16 seedSize p3 (array (fixedAt + 16) seedSize (lit≤ tt))
 
   of-flags : encFlags (decFlags l) ≡ take flagsWidth (drop flagsAt l)
   unfolding encFlags
@@ -257,7 +259,7 @@ shape-decode l long =
       codes = record { pin1 = of codesAt pinSize (lit≤ tt); pin2 = of (codesAt + pinSize) pinSize (lit≤ tt) };
       face = record {
         front = record {
-          fixed = record { cid = of fixedAt cidSize (lit≤ tt); cvc = of (fixedAt + 8) cvcSize (lit≤ tt) };
+          fixed = record { cid = of fixedAt cidSize (lit≤ tt); cvc = of (fixedAt + 8) cvcSize (lit≤ tt); seed = of (fixedAt + 16) seedSize (lit≤ tt) };
           key = of (keyAt + 1) keyRoom (lit≤ tt);
         };
         held = record {

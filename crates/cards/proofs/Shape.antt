@@ -23,7 +23,7 @@ use Rattle.card.specs.Layout.{pinSize, keyRoom, dataRoom, signatureSize, lastRo
 use Rattle.card.specs.Layout.{codesWidth, fixedWidth, flagsWidth, walletWidth, keyWidth, countersWidth, blockWidth, issuerWidth, lastWidth}
 use Rattle.card.specs.Layout.{fixedAt, userAt, lastAt, imageSize}
 use Rattle.card.specs.Values.{heldKey, heldBlock, heldIssuer, heldLast, fresh}
-use Rattle.card.specs.Values.{withWallet, withKey, withCounters, withUser, withProtected, withIssuer, withLast}
+use Rattle.card.specs.Values.{withFlags, withWallet, withKey, withCounters, withUser, withProtected, withIssuer, withLast}
 use Rattle.card.specs.Image.{encCodes, encFixed, encFlags, encWallet, encKey, encCounters, encBlock, encIssuer, encLast, encFront, encHeld, encFace, encode}
 use Rattle.card.specs.Shape.{ShapeCodes, ShapeFixed, ShapeIssuer, ShapeFront, ShapeHeld, ShapeFace, Shape}
 
@@ -117,6 +117,9 @@ held-last-wide s = long-last (heldLast s) (held-last-long s)
 
 -- A FACE with one group anew
 module _ (f : Face) (s : ShapeFace f) where
+  pub shape-with-flags : (x : Flags) → ShapeFace (withFlags x f)
+  shape-with-flags x = record { front = record { fixed = s .front .fixed; key = s .front .key }; held = s .held; last = s .last }
+
   pub shape-with-wallet : (x : Wallet) → ShapeFace (withWallet x f)
   shape-with-wallet x = record { front = record { fixed = s .front .fixed; key = s .front .key }; held = s .held; last = s .last }
 

@@ -1,4 +1,5 @@
 // What becomes of the card: the image of the card after, made from that of the card before.
+use card::Codes;
 use card::Counters;
 use card::Wallet;
 use card::layout;
@@ -10,12 +11,14 @@ ghost use mathlib.Core.Path.{_≡_};
 ghost use Rattle.wire.specs.Wire.{Wrote};
 ghost use Rattle.sent.specs.Sent.{viewBy};
 ghost use Rattle.card.specs.declared.Card.{Card};
+ghost use Rattle.card.specs.declared.Face.{Face};
 ghost use Rattle.card.specs.Image.{decode};
 ghost use Rattle.card.specs.Values.{risen, heldLast, faced, withUser, withProtected, withCounters, withLast, checkedOnce, validatedOnce};
 ghost use Rattle.writing.specs.Holds.{Turned};
 ghost use Rattle.manual.specs.Tags.{UserData, UserProtectedData};
 ghost use Rattle.manual.specs.Wallet.{sign, createdFace, purgedFace, newCodes};
 ghost use Rattle.manual.specs.Storage.{storedBlock, storedNumber, storedCounters, storedFace, keptCounter, issuerFace};
+ghost use Rattle.manual.specs.Activation.{activatedFace, activatedCodes};
 ghost use Rattle.changes.specs.Carried.{keptImage, carriedCard, carriedImage, charged};
 
 // The image as it was, where a command is refused.
@@ -71,6 +74,7 @@ fn alter(cmd: Command, img: &[u8], p: &[u8], places: &Places, answers: &[u8], ne
         Command::WriteUserData => stored(img, p, places, next),
         Command::WriteIssuerData => noted(img, p, places, next),
         Command::ReadIssuerData => {}
+        Command::ActivateCard => activated(img, p, places, next),
     }
 }
 
@@ -230,6 +234,30 @@ fn noted(img: &[u8], p: &[u8], places: &Places, next: &mut [u8])
         sent::value(p, places, tag::ISSUER_DATA_SIGNATURE),
         counter,
     );
+}
+
+// PIN1 becomes its default where that was asked for.
+fn reset_pin1(img: &[u8], p: &[u8], places: &Places, next: &mut [u8])
+    ensures { λ _. ⌜ ((f : Face) → Turned (record { face = f; codes = decode (now (img .entry)) .codes })
+        (record { face = f; codes = activatedCodes (viewBy (now (p .entry)) (now (places .entry))) (decode (now (img .entry)) .codes) })
+        (now (next .entry)) (now (next .exit))) ⌝ }
+{
+    if request::resets(p, places) {
+        writing::anew::codes(next, &Codes::DEFAULT_PIN1, image::pin2(img));
+    }
+}
+
+fn activated(img: &[u8], p: &[u8], places: &Places, next: &mut [u8])
+    ensures { λ _. ⌜ Turned (decode (now (img .entry)))
+        (record {
+          face = activatedFace (decode (now (img .entry)) .face);
+          codes = activatedCodes (viewBy (now (p .entry)) (now (places .entry))) (decode (now (img .entry)) .codes);
+        })
+        (now (next .entry)) (now (next .exit)) ⌝ }
+{
+    let flags = image::flags(img);
+    writing::anew::flags(next, flags.activate());
+    reset_pin1(img, p, places, next);
 }
 
 fn recoded(p: &[u8], places: &Places, next: &mut [u8])

@@ -10,15 +10,16 @@ use manual::Signing;
 use manual::tag;
 use sent::Places;
 ghost use mathlib.Core.Path.{_≡_};
-ghost use mathlib.Core.Bool.{true, false};
+ghost use mathlib.Core.Bool.{true, false, not};
 ghost use lib.Dec.{eqb, ltb};
 ghost use Rattle.sent.specs.Sent.{viewBy};
 ghost use Rattle.card.specs.Layout.{top16};
 ghost use Rattle.card.specs.Image.{decode};
 ghost use Rattle.manual.specs.Commands.{row};
-ghost use Rattle.manual.specs.Wallet.{pinFields, signFields, signConditions, hashesOk};
+ghost use Rattle.manual.specs.Wallet.{isActive, pinFields, signFields, signConditions, hashesOk};
 ghost use Rattle.manual.specs.Checking.{challenged, checkFields};
 ghost use Rattle.manual.specs.Storage.{isData, blockSent, numberSent, anySent, userFields, modeOk, issuerFields, guarded};
+ghost use Rattle.manual.specs.Activation.{activationFields};
 ghost use Rattle.checks.specs.Columns.{conditionsOf, pinConditions, issuerConditions};
 
 // CHECKS 7 to 10: what no request changes. Activated or not, in every Status.
@@ -115,6 +116,7 @@ pub fn needs(cmd: Command) -> Needs
         Command::WriteUserData => when_not_purged(),
         Command::WriteIssuerData => when_not_purged(),
         Command::ReadIssuerData => always(),
+        Command::ActivateCard => always(),
     }
 }
 
@@ -138,6 +140,7 @@ pub fn needs_pin2(cmd: Command, p: &[u8], places: &Places) -> bool
         ),
         Command::WriteIssuerData => false,
         Command::ReadIssuerData => false,
+        Command::ActivateCard => false,
     }
 }
 
@@ -158,6 +161,7 @@ pub fn fields_ok(cmd: Command, img: &[u8], p: &[u8], places: &Places) -> bool
         Command::WriteUserData => user_fields(p, places),
         Command::WriteIssuerData => issuer_fields(img, p, places),
         Command::ReadIssuerData => mode_ok(p, places),
+        Command::ActivateCard => activation_fields(p, places),
     }
 }
 
@@ -285,6 +289,17 @@ fn issuer_fields(img: &[u8], p: &[u8], places: &Places) -> bool
     wire::both(mode_ok(p, places), wire::both(fits, proof))
 }
 
+// Reset_PIN1, one byte 0 or 1, and the issuer's confirmation.
+fn activation_fields(p: &[u8], places: &Places) -> bool
+    ensures { λ r. ⌜ r ≡ activationFields (viewBy (now (p .entry)) (now (places .entry))) ⌝ }
+{
+    let signature = sent::value(p, places, tag::ACTIVATION_SIGNATURE);
+    let reset = sent::value(p, places, tag::RESET_PIN1);
+    let kept = [0u8];
+    let said = wire::either(wire::equal(reset, &kept), request::resets(p, places));
+    wire::both(said, signature.len() == Last::SIGNATURE_SIZE)
+}
+
 // CHECK 12: the command's own conditions.
 pub fn conditions_ok(cmd: Command, img: &[u8], p: &[u8], places: &Places) -> bool
     ensures { λ r. ⌜ r ≡ conditionsOf cmd (decode (now (img .entry))) (viewBy (now (p .entry)) (now (places .entry))) ⌝ }
@@ -302,6 +317,7 @@ pub fn conditions_ok(cmd: Command, img: &[u8], p: &[u8], places: &Places) -> boo
         Command::WriteUserData => true,
         Command::WriteIssuerData => issuer_conditions(img, p, places),
         Command::ReadIssuerData => true,
+        Command::ActivateCard => may_activate(img),
     }
 }
 
@@ -324,6 +340,14 @@ fn may_purge(img: &[u8]) -> bool
 {
     let flags = image::flags(img);
     flags.nopurge == 0
+}
+
+// Not activated yet.
+fn may_activate(img: &[u8]) -> bool
+    ensures { λ r. ⌜ r ≡ not (isActive (decode (now (img .entry)) .face)) ⌝ }
+{
+    let flags = image::flags(img);
+    wire::unless(flags.active == 1)
 }
 
 // A code that differs from the stored one may change.

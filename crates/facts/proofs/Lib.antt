@@ -3,4 +3,5 @@ pub mod Sizes
 pub mod Wallet
 pub mod Checking
 pub mod Storage
+pub mod Activation
 pub mod Facts

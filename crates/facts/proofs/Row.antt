@@ -9,7 +9,7 @@ use Rattle.wire.proofs.Laws.{part-most}
 use Rattle.fields.specs.Fields.{View, Writable, written}
 use Rattle.card.specs.declared.Codes.{Codes}
 use Rattle.card.specs.declared.Face.{Face}
-use Rattle.card.specs.Layout.{cidSize, keyRoom, dataRoom, signatureSize, lastRoom, blockWidth}
+use Rattle.card.specs.Layout.{cidSize, seedSize, keyRoom, dataRoom, signatureSize, lastRoom, blockWidth}
 use Rattle.card.specs.Layout.{fixedAt, keyAt, userAt, protectedAt, issuerAt, lastAt}
 use Rattle.card.specs.Image.{decode}
 use Rattle.card.specs.Shape.{ShapeCodes, ShapeFace}
@@ -21,6 +21,7 @@ use Rattle.facts.proofs.Sizes.{weight, load, light-writes, light-writte
 -- a face that is as small as a card's: what is read from any bytes is, and what has its shape
 pub record Small (f : Face) : Type 0 where
   pub cid : length (f .front .fixed .cid) ≤ cidSize
+  pub seed : length (f .front .fixed .seed) ≤ seedSize
   pub key : length (f .front .key .bytes) ≤ keyRoom
   pub user : length (f .held .user .bytes) ≤ dataRoom
   pub protected : length (f .held .protected .bytes) ≤ dataRoom
@@ -33,6 +34,7 @@ unfolding decode
 small-decode l =
     record {
       cid = part-most l fixedAt cidSize;
+      seed = part-most l (fixedAt + 16) seedSize;
       key = part-most l (keyAt + 1) keyRoom;
       user = part-most l (userAt + 2) dataRoom;
       protected = part-most l (protectedAt + 2) dataRoom;
@@ -45,6 +47,7 @@ pub small-shape : {f : Face} → ShapeFace f → Small f
 small-shape s =
     record {
       cid = omega (arith, s .front .fixed .cid);
+      seed = omega (arith, s .front .fixed .seed);
       key = omega (arith, s .front .key);
       user = omega (arith, s .held .user);
       protected = omega (arith, s .held .protected);

@@ -7,7 +7,7 @@ use mathlib.Core.Bool.{Bool, true, false, cond, _&&_}
 use lib.ListN.{length}
 use lib.Dec.{leb, eqb}
 use borrow.Author.Tests.{leb-true}
-use Rattle.wire.specs.Wire.{be1, be4, alike}
+use Rattle.wire.specs.Wire.{be4, alike}
 use Rattle.wire.proofs.Laws.{by-cases, both-true}
 use Rattle.fields.specs.Fields.{View, has, val, fld}
 use Rattle.card.specs.declared.Face.{Face}
@@ -16,12 +16,22 @@ use Rattle.card.specs.Values.{keyOf, created, spent, risen, purged, heldKey, he
 use Rattle.card.specs.Shape.{ShapeFace}
 use Rattle.cards.proofs.Shape.{held-codes-long, held-key-long, held-last-long, shape-with-wallet, shape-with-key, shape-with-counters, shape-with-last}
 use Rattle.manual.specs.Words.{hashSize, questionsRoom}
-use Rattle.manual.specs.Tags.{NewPIN1, NewPIN2, IsActivated, TransactionHash, TransactionHashSize, WalletPublicKey, Remaining}
+use Rattle.manual.specs.Tags.{NewPIN1, NewPIN2, TransactionHash, TransactionHashSize, WalletPublicKey, Remaining}
 use Rattle.manual.specs.Row.{Question}
-use Rattle.manual.specs.Wallet.{isLoaded, isActive, activeFields, readCard, createWallet, setPin, sign, purgeWallet}
+use Rattle.manual.specs.Wallet.{isLoaded, isActive, activeFields, asleepFields, readFields, readCard, createWallet, setPin, sign, purgeWallet}
 use Rattle.manual.specs.Wallet.{isNew, count, hashesOk, signFields, signedFace}
-use Rattle.facts.proofs.Row.{Facts}
-use Rattle.facts.proofs.Sizes.{load, weight-cond, key-long, last-long, name-long, hashes-long}
+use Rattle.facts.proofs.Row.{Small, Facts}
+use Rattle.facts.proofs.Sizes.{weight, load, weight-cond, key-long, last-long, name-long, hashes-long}
+
+-- what READ_CARD tells, which FE tells too
+pub read-light : (f : Face) → Small f → weight (readFields f) ≤ 256
+read-light f s =
+    let n = name-long (f .front .fixed .curve) in
+    let k = key-long (f .front .key) in
+    let g = f .front in
+    let w = weight-cond (isLoaded f) (fld WalletPublicKey (keyOf (g .key)) ∷ fld Remaining (be4 (g .wallet .remaining)) ∷ []) [] in
+    let x = weight-cond (isActive f) (activeFields f) (asleepFields f) in
+    omega arith
 
 pub of-readCard : Facts readCard
 of-readCard =
@@ -30,13 +40,7 @@ of-readCard =
       codes = λ v x s. s;
       more = λ m. omega arith;
       loads = λ f v d s e. omega arith;
-      weighs = λ f v d a s.
-          let n = name-long (f .front .fixed .curve) in
-          let k = key-long (f .front .key) in
-          let g = f .front in
-          let w = weight-cond (isLoaded f) (fld WalletPublicKey (keyOf (g .key)) ∷ fld Remaining (be4 (g .wallet .remaining)) ∷ []) [] in
-          let x = weight-cond (isActive f) (activeFields f) (fld IsActivated (be1 0) ∷ []) in
-          omega arith;
+      weighs = λ f v d a s. let r = read-light f s in omega arith;
     }
 
 pub of-createWallet : Facts createWallet

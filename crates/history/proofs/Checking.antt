@@ -28,7 +28,7 @@ module _ (m : Matched) (f : Face) (q d a : List ℕ) where
         asks =
             rw (loaded (checkWallet .needs) (f .front .wallet .status) (p .allows) refl refl)
             (by-cases (λ z. allKinds (mayAsk (code CheckWallet) 2) z ≡ true) (keyAsked (sentIn q)) (λ _. refl) (λ _. refl));
-        keeps = λ sh x h r i t s. rw (t .create, t .pin, t .sign, t .purge) i;
+        keeps = λ sh x h r i t s. rw (t .create, t .pin, t .sign, t .purge, t .activate) i;
         stays = λ o g. ok-counters f o (checkedOnce (f .front .counters));
         alive = λ u e. not-purged (checkWallet .needs) (f .front .wallet .status) (p .allows) refl e;
         climbs = λ g. same refl refl;
@@ -39,7 +39,7 @@ module _ (m : Matched) (f : Face) (q d a : List ℕ) where
       record {
         reports = quietly _ _ refl;
         asks = refl;
-        keeps = λ sh x h r i t s. rw (t .create, t .pin, t .sign, t .purge) i;
+        keeps = λ sh x h r i t s. rw (t .create, t .pin, t .sign, t .purge, t .activate) i;
         stays = λ o g. o;
         alive = λ u e. clash u refl;
         climbs = λ g. same refl refl;
@@ -50,7 +50,7 @@ module _ (m : Matched) (f : Face) (q d a : List ℕ) where
       record {
         reports = quietly _ _ refl;
         asks = refl;
-        keeps = λ sh x h r i t s. rw (t .create, t .pin, t .sign, t .purge) i;
+        keeps = λ sh x h r i t s. rw (t .create, t .pin, t .sign, t .purge, t .activate) i;
         stays = λ o g. ok-counters f o (validatedOnce (f .front .counters));
         alive = λ u e. clash u refl;
         climbs = λ g. same refl refl;

@@ -8,10 +8,10 @@ use lib.Dec.{eqb}
 use borrow.Author.Tests.{eq-eqb, eqb-true}
 pub use Rattle.wire.proofs.Laws.{by-cases, both-true}
 use Rattle.manual.specs.declared.Command.{Command}
-use Rattle.manual.specs.declared.Command.the-variants.{ReadCard, CreateWallet, CheckWallet, SetPin, Sign, PurgeWallet, WriteIssuerData}
+use Rattle.manual.specs.declared.Command.the-variants.{ReadCard, CreateWallet, CheckWallet, SetPin, Sign, PurgeWallet, WriteIssuerData, ActivateCard}
 use Rattle.manual.specs.declared.Ins.{Ins}
 use Rattle.manual.specs.declared.Ins.the-variants.{Listed, Unlisted}
-use Rattle.manual.specs.Request.{code, commands, listedIn, insOf, commandOf, command}
+use Rattle.manual.specs.Request.{code, commands, listedIn, insOf, listed, commandOf, command}
 use Rattle.history.specs.Demands.{isCardKind, mayAsk}
 use Rattle.story.specs.Sums.{Tap, tap, accepted, ins, did, usesWallet}
 
@@ -22,6 +22,10 @@ pub or-false : (a b : Bool) → (a || b) ≡ true → a ≡ false → b ≡ true
 or-false true b e h = cc
 or-false false b e h = e
 
+pub or-other : (a b : Bool) → (a || b) ≡ true → b ≡ false → a ≡ true
+or-other true b e h = refl
+or-other false b e h = clash e h
+
 -- A REQUEST FOR A COMMAND has its INS; READ_CARD stands for what is not listed too
 abbrev Known : ℕ → Ins → Type 0
 Known i (Listed k) = i ≡ code k
@@ -30,6 +34,14 @@ Known i Unlisted = Unit {0}
 known : (ks : List Command) (i : ℕ) → Known i (listedIn ks i)
 known [] i = tt
 known (k ∷ ks) i = by-cases (Known i) (eqb i (code k)) (λ e. eqb-true i (code k) e) (λ _. known ks i)
+
+pub listed-ins : (q : List ℕ) → listed (insOf (ins q)) ≡ true → ins q ≡ code (command q)
+unfolding insOf
+listed-ins q = go (insOf (ins q)) (known commands (ins q))
+  where
+    go : (z : Ins) → Known (ins q) z → listed z ≡ true → ins q ≡ code (commandOf z)
+    go (Listed k) h e = h
+    go Unlisted h e = clash e refl
 
 -- of a command that is listed, and is not READ_CARD
 module _ (k : Command) (listed : listedIn commands (code k) ≡ Listed k) where
@@ -68,6 +80,7 @@ pub record Did (k : Command) (t : Tap) : Type 0 where
   pub pin : did SetPin t ≡ eqb (code k) (code SetPin)
   pub sign : did Sign t ≡ eqb (code k) (code Sign)
   pub purge : did PurgeWallet t ≡ eqb (code k) (code PurgeWallet)
+  pub activate : did ActivateCard t ≡ eqb (code k) (code ActivateCard)
 
 pub did-by : (q r : List ℕ) → accepted r ≡ true → Did (command q) (tap q r)
 did-by q r e =
@@ -76,13 +89,20 @@ did-by q r e =
       pin = rw e (ins-is SetPin refl refl q);
       sign = rw e (ins-is Sign refl refl q);
       purge = rw e (ins-is PurgeWallet refl refl q);
+      activate = rw e (ins-is ActivateCard refl refl q);
     }
+
+pub did-read : (t : Tap) → did ReadCard t ≡ true → (accepted (t .response) ≡ true) × (command (t .request) ≡ ReadCard)
+did-read = did-is ReadCard refl
 
 pub did-sign : (t : Tap) → did Sign t ≡ true → (accepted (t .response) ≡ true) × (command (t .request) ≡ Sign)
 did-sign = did-is Sign refl
 
 pub did-purge : (t : Tap) → did PurgeWallet t ≡ true → (accepted (t .response) ≡ true) × (command (t .request) ≡ PurgeWallet)
 did-purge = did-is PurgeWallet refl
+
+pub did-activate : (t : Tap) → did ActivateCard t ≡ true → (accepted (t .response) ≡ true) × (command (t .request) ≡ ActivateCard)
+did-activate = did-is ActivateCard refl
 
 pub did-note : (t : Tap) → did WriteIssuerData t ≡ true → (accepted (t .response) ≡ true) × (command (t .request) ≡ WriteIssuerData)
 did-note = did-is WriteIssuerData refl

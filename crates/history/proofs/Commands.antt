@@ -4,7 +4,7 @@ use mathlib.Core.List.{List}
 use Rattle.card.specs.declared.Face.{Face}
 use Rattle.manual.specs.declared.Command.{Command}
 use Rattle.manual.specs.declared.Command.the-variants.{ReadCard, CreateWallet, CheckWallet, SetPin, Sign, VerifyCard, ValidateCard, PurgeWallet}
-use Rattle.manual.specs.declared.Command.the-variants.{ReadUserData, WriteUserData, WriteIssuerData, ReadIssuerData}
+use Rattle.manual.specs.declared.Command.the-variants.{ReadUserData, WriteUserData, WriteIssuerData, ReadIssuerData, ActivateCard}
 use Rattle.manual.specs.Row.{Matched}
 use Rattle.manual.specs.Commands.{row}
 use Rattle.manual.specs.Settle.{sentIn}
@@ -13,6 +13,7 @@ use Rattle.history.proofs.Conduct.{Conduct}
 use Rattle.history.proofs.Wallet.{of-readCard, of-createWallet, of-setPin, of-sign, of-purgeWallet}
 use Rattle.history.proofs.Checking.{of-checkWallet, of-verifyCard, of-validateCard}
 use Rattle.history.proofs.Storage.{of-readUserData, of-writeUserData, of-writeIssuerData, of-readIssuerData}
+use Rattle.history.proofs.Activation.{of-activateCard}
 
 pub conduct : (k : Command) (m : Matched) (f : Face) (q d a : List ℕ) → Passed (row k) m f (sentIn q) → Conduct k f q d a
 conduct ReadCard = of-readCard
@@ -27,3 +28,4 @@ conduct ReadUserData = of-readUserData
 conduct WriteUserData = of-writeUserData
 conduct WriteIssuerData = of-writeIssuerData
 conduct ReadIssuerData = of-readIssuerData
+conduct ActivateCard = of-activateCard

@@ -11,7 +11,7 @@ use Rattle.card.specs.declared.Codes.{Codes}
 use Rattle.card.specs.declared.Face.{Face}
 use Rattle.manual.specs.declared.Command.{Command}
 use Rattle.manual.specs.declared.Command.the-variants.{ReadCard, CreateWallet, CheckWallet, SetPin, Sign, VerifyCard, ValidateCard, PurgeWallet}
-use Rattle.manual.specs.declared.Command.the-variants.{ReadUserData, WriteUserData, WriteIssuerData, ReadIssuerData}
+use Rattle.manual.specs.declared.Command.the-variants.{ReadUserData, WriteUserData, WriteIssuerData, ReadIssuerData, ActivateCard}
 use Rattle.manual.specs.Tags.{CID, PIN1, PIN2, CVC, NewPIN1, NewPIN2}
 use Rattle.manual.specs.Row.{Row}
 use Rattle.manual.specs.Commands.{row}
@@ -239,6 +239,23 @@ reads ReadIssuerData v w h =
       questions = λ f d. refl;
       next = λ f a. refl;
       recode = λ x. refl;
+      fieldsOut = λ f d a. refl;
+      more = λ x. refl;
+    }
+reads ActivateCard v w h =
+    let reset = h .1 .1 .0 in
+    let signature = h .1 .1 .1 .0 in
+    record {
+      pin1 = h .0;
+      cid = λ _. h .1 .0;
+      asksPin2 = refl;
+      pin2 = λ e. clash e refl;
+      cvc = λ e. clash e refl;
+      fields = λ f. rw (reset .1, signature .1);
+      conditions = λ x f. refl;
+      questions = λ f d. rw (reset .1, signature .1);
+      next = λ f a. refl;
+      recode = λ x. rw (reset .1);
       fieldsOut = λ f d a. refl;
       more = λ x. refl;
     }

@@ -6,6 +6,7 @@ pub mod Sign
 pub mod Wallet
 pub mod Checking
 pub mod Storage
+pub mod Activation
 pub mod Commands
 pub mod Cards
 pub mod Next

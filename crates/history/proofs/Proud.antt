@@ -15,7 +15,7 @@ use Rattle.card.specs.Valid.{isCard}
 use Rattle.manual.specs.Words.{swErrorProcessingCommand, questionsRoom, drawSize}
 use Rattle.manual.specs.declared.Command.{Command}
 use Rattle.manual.specs.declared.Command.the-variants.{ReadCard, CreateWallet, CheckWallet, SetPin, Sign, VerifyCard, ValidateCard, PurgeWallet}
-use Rattle.manual.specs.declared.Command.the-variants.{ReadUserData, WriteUserData, WriteIssuerData, ReadIssuerData}
+use Rattle.manual.specs.declared.Command.the-variants.{ReadUserData, WriteUserData, WriteIssuerData, ReadIssuerData, ActivateCard}
 use Rattle.manual.specs.declared.Verdict.{Verdict}
 use Rattle.manual.specs.declared.Verdict.the-variants.{Pass, Stop}
 use Rattle.manual.specs.Request.{code, command}
@@ -51,6 +51,7 @@ like ReadUserData = refl
 like WriteUserData = refl
 like WriteIssuerData = refl
 like ReadIssuerData = refl
+like ActivateCard = refl
 
 -- of an answered command, what does not hang on what it tells
 record Core (x y : Said) : Type 0 where

@@ -7,12 +7,13 @@ use mathlib.Core.Bool.{Bool, true, false, _&&_, _||_}
 use lib.ListN.{length, getD}
 use lib.Dec.{leb, eqb}
 use borrow.Author.Tests.{eq-eqb, ne-eqb, leb-true, leb-false}
+use Rattle.fields.specs.Fields.{View}
 use Rattle.card.specs.declared.Face.{Face}
 use Rattle.card.specs.Image.{decode}
 use Rattle.manual.specs.Words.{swProcessCompleted, swErrorProcessingCommand, swNeedEncryption, swInvalidParams, questionsRoom}
 use Rattle.manual.specs.declared.Command.{Command}
 use Rattle.manual.specs.declared.Command.the-variants.{ReadCard, CreateWallet, CheckWallet, SetPin, Sign, VerifyCard, ValidateCard, PurgeWallet}
-use Rattle.manual.specs.declared.Command.the-variants.{ReadUserData, WriteUserData, WriteIssuerData, ReadIssuerData}
+use Rattle.manual.specs.declared.Command.the-variants.{ReadUserData, WriteUserData, WriteIssuerData, ReadIssuerData, ActivateCard}
 use Rattle.manual.specs.declared.Outcome.{Outcome}
 use Rattle.manual.specs.Request.{command}
 use Rattle.manual.specs.Row.{Matched, exactly, fitting, shaped, Rule}
@@ -21,7 +22,7 @@ use Rattle.manual.specs.Settle.{State, Call, askCall, sentIn, matched, judgedBy
 use Rattle.manual.specs.Settle.{settled, settledOf, outcome, lent, askedFor, askedOf, Settled}
 use Rattle.story.specs.Sums.{isDone}
 use Rattle.history.specs.Demands.{AnyCard, askStop, settleStop, checkWord, isRefusal, Demand2}
-use Rattle.history.specs.Facts.{checksAt, FirstFails, AllHold, Reasoned, SaidNo, Alike, alike, thirteen}
+use Rattle.history.specs.Facts.{checksAt, FirstFails, AllHold, Reasoned, AsksIssuer, note, activation, SaidNo, Alike, alike, thirteen}
 use Rattle.history.proofs.Choice.{by-cases, both-true, clash}
 use Rattle.history.proofs.Taps.{by-checks, in-range, by-word, not-done, all-hold}
 use Rattle.history.proofs.Cards.{done-is}
@@ -37,21 +38,7 @@ first-one {m} {n} x y = go (leb m n) (leb n m) refl refl
     go true false e f = clash (y .before m (leb-false n m f)) (x .fails)
     go false b e f = clash (x .before n (leb-false m n e)) (y .fails)
 
--- THE ISSUER'S NO: the byte 0, in answer to a WRITE_ISSUER_DATA
-unconfirmed : (k : Command) (a : List ℕ) → row k .confirmed a ≡ false → k ≡ WriteIssuerData
-unconfirmed ReadCard a e = clash refl e
-unconfirmed CreateWallet a e = clash refl e
-unconfirmed CheckWallet a e = clash refl e
-unconfirmed SetPin a e = clash refl e
-unconfirmed Sign a e = clash refl e
-unconfirmed VerifyCard a e = clash refl e
-unconfirmed ValidateCard a e = clash refl e
-unconfirmed PurgeWallet a e = clash refl e
-unconfirmed ReadUserData a e = clash refl e
-unconfirmed WriteUserData a e = clash refl e
-unconfirmed WriteIssuerData a e = refl
-unconfirmed ReadIssuerData a e = clash refl e
-
+-- THE ISSUER'S NO: the byte 0
 byte-0 : (a : List ℕ) → fitting (exactly 1 (λ b. leb b 1)) a ≡ true → eqb (getD a 0 0) 1 ≡ false → a ≡ 0 ∷ []
 byte-0 [] e n = clash e refl
 byte-0 (zero ∷ []) e n = refl
@@ -60,6 +47,31 @@ byte-0 (x ∷ y ∷ ys) e n =
     let l : ℕ = length (x ∷ y ∷ ys) in
     let z = both-true (leb l 1) (leb x 1) (both-true (leb 1 l) (leb l 1 && leb x 1) e .1) in
     absurd (omega (arith, leb-true l 1 (z .0)))
+
+-- in answer to a note or an activation
+record No (k : Command) (a : List ℕ) : Type 0 where
+  asks : AsksIssuer k
+  byte : a ≡ 0 ∷ []
+
+unconfirmed : (k : Command) (f : Face) (v : View) (d a : List ℕ) → shaped (row k .questions f v d) a ≡ true → row k .confirmed a ≡ false → No k a
+unfolding shaped
+unconfirmed ReadCard f v d a y e = clash refl e
+unconfirmed CreateWallet f v d a y e = clash refl e
+unconfirmed CheckWallet f v d a y e = clash refl e
+unconfirmed SetPin f v d a y e = clash refl e
+unconfirmed Sign f v d a y e = clash refl e
+unconfirmed VerifyCard f v d a y e = clash refl e
+unconfirmed ValidateCard f v d a y e = clash refl e
+unconfirmed PurgeWallet f v d a y e = clash refl e
+unconfirmed ReadUserData f v d a y e = clash refl e
+unconfirmed WriteUserData f v d a y e = clash refl e
+unconfirmed WriteIssuerData f v d a y e = record { asks = note; byte = byte-0 a y e }
+unconfirmed ReadIssuerData f v d a y e = clash refl e
+unconfirmed ActivateCard f v d a y e = record { asks = activation; byte = byte-0 a y e }
+
+no-to : {k : Command} → AsksIssuer k → row k .confirmed (0 ∷ []) ≡ false
+no-to note = refl
+no-to activation = refl
 
 module _ (s : State) (i : Call) where
   abbrev k : Command
@@ -74,17 +86,9 @@ module _ (s : State) (i : Call) where
   said-no :
       AllHold (checksAt s i) → shaped (row k .questions f (sentIn (i .request)) (i .draw)) (i .answers) ≡ true
       → row k .confirmed (i .answers) ≡ false → SaidNo s i
-  unfolding shaped
   said-no h y n =
-      let e = unconfirmed k (i .answers) n in
-      record {
-        others = h;
-        note = e;
-        shape = y;
-        no =
-            byte-0 (i .answers) (sym (ap (λ j. shaped (row j .questions f (sentIn (i .request)) (i .draw)) (i .answers)) e) ∙ y)
-            (sym (ap (λ j. row j .confirmed (i .answers)) e) ∙ n);
-      }
+      let z = unconfirmed k f (sentIn (i .request)) (i .draw) (i .answers) y n in
+      record { others = h; issuer = z .asks; shape = y; no = z .byte }
 
   -- THE RESULT of a call whose card is looked at: by the first check to fail, or where all hold
   module _ (P : Outcome → Type 0) (no-way : (n w l : ℕ) → isRefusal n w ≡ true → FirstFails n (checksAt s i) → P (outcome 0 n w l)) where
@@ -202,7 +206,7 @@ settled-thirteen =
 
 pub thirteen-settled : (f : AnyCard) → Demand2 f → (s : State) (i : Call) → settleStop s i ≡ 0 → SaidNo s i → f .taps .settle s i .result .reason ≡ 13
 thirteen-settled f d s i e y =
-    let no : row (command (i .request)) .confirmed (i .answers) ≡ false = (λ j. row (y .note j) .confirmed (y .no j)) in
+    let no : row (command (i .request)) .confirmed (i .answers) ≡ false = ap (row (command (i .request)) .confirmed) (y .no) ∙ no-to (y .issuer) in
     ap (λ z. z .result .reason) (d .settles s i ∙ looked s i e)
     ∙ settled-by s i (λ r. r .reason ≡ 13) (λ n w l _ x. clash (y .others n) (x .fails)) (λ _ n. clash (y .shape) n) (λ _. refl) (λ _ t w l _. clash t no)
 

@@ -1,9 +1,10 @@
 -- What a history shows, together, and THE INVARIANT of a card and its history. Assumes nothing.
 use Prim.Native.Nat.{ℕ, zero, suc, _+_, _≤_, _<_}
 use native.Mathlib.Omega.{arith}
-use mathlib.Core.Path.{_≡_, refl}
+use mathlib.Core.Path.{_≡_, refl, sym, ap, _∙_}
 use mathlib.Core.List.{List, [], _∷_}
 use mathlib.Core.Bool.{Bool, true, false}
+use lib.Dec.{eqb}
 use Rattle.wire.proofs.Laws.{part-none}
 use Rattle.card.specs.declared.Codes.{Codes}
 use Rattle.card.specs.declared.Fixed.{Fixed}
@@ -66,6 +67,7 @@ pub record Inv (sh : Sheet) (f : Watched) (x : Codes) (s : Seen) : Type 0 where
   pub last : lastOf (f .last) ≡ s .given
   pub held : 0 < f .last .count → (s .status ≡ 2) × (1 ≤ s .made)
   pub balance : s .status ≡ 2 → f .wallet .remaining + s .made ≡ sh .fixed .max
+  pub asleep : eqb (s .active) 1 ≡ false → s .status ≡ 1
   pub purged : sh .flags .reusable ≡ 0 → s .everPurged ≡ true → s .status ≡ 3
 
 module _ (sh : Sheet) where
@@ -83,8 +85,13 @@ module _ (sh : Sheet) where
         last = part-none _ 0;
         held = λ e. absurd (omega arith);
         balance = λ e. absurd (omega arith);
+        asleep = λ _. refl;
         purged = λ r e. clash e refl;
       }
+
+-- a card is activated where its history is
+pub awake : {sh : Sheet} {f : Watched} {x : Codes} {s : Seen} → Inv sh f x s → {b : Bool} → eqb (f .flags .active) 1 ≡ b → eqb (s .active) 1 ≡ b
+awake i e = ap (λ (g : Flags). eqb (g .active) 1) (sym (i .flags)) ∙ e
 
 -- no signatures are held where no wallet lives, and none held is none told
 pub none-held : {sh : Sheet} {f : Watched} {x : Codes} {s : Seen} → Inv sh f x s → (s .status ≡ 2 → ⊥) → f .last .count ≡ 0

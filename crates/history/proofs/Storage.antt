@@ -52,7 +52,7 @@ module _ (m : Matched) (f : Face) (q d a : List ℕ) where
             (held-quiet UserProtectedData (blockOf (f .held .protected)) refl)
             refl));
         asks = refl;
-        keeps = λ sh x h r i t s. rw (t .create, t .pin, t .sign, t .purge) i;
+        keeps = λ sh x h r i t s. rw (t .create, t .pin, t .sign, t .purge, t .activate) i;
         stays = λ o g. o;
         alive = λ u e. clash u refl;
         climbs = λ g. same refl refl;
@@ -64,7 +64,7 @@ module _ (m : Matched) (f : Face) (q d a : List ℕ) where
       record {
         reports = quietly _ _ refl;
         asks = refl;
-        keeps = λ sh x h r i t s. rw (t .create, t .pin, t .sign, t .purge) i;
+        keeps = λ sh x h r i t s. rw (t .create, t .pin, t .sign, t .purge, t .activate) i;
         stays = λ o g.
             let y = valid f o in
             let b = both-true (anySent v) _ (p .fields) .1 in
@@ -85,7 +85,7 @@ module _ (m : Matched) (f : Face) (q d a : List ℕ) where
       record {
         reports = quietly _ _ refl;
         asks = refl;
-        keeps = λ sh x h r i t s. rw (t .create, t .pin, t .sign, t .purge) i;
+        keeps = λ sh x h r i t s. rw (t .create, t .pin, t .sign, t .purge, t .activate) i;
         stays = λ o g.
             let n = note f v (p .fields) in
             ok-issuer f o (heldIssuer (val IssuerData v) (val IssuerDataSignature v) (keptCounter f v))
@@ -103,7 +103,7 @@ module _ (m : Matched) (f : Face) (q d a : List ℕ) where
             (by-cases (λ z. quiet z ≡ true) (eqb (length (noteOf f)) 0) (λ _. refl) (λ _. refl))
             (by-cases (λ z. quiet z ≡ true) (guarded f) (λ _. refl) (λ _. refl)));
         asks = refl;
-        keeps = λ sh x h r i t s. rw (t .create, t .pin, t .sign, t .purge) i;
+        keeps = λ sh x h r i t s. rw (t .create, t .pin, t .sign, t .purge, t .activate) i;
         stays = λ o g. o;
         alive = λ u e. clash u refl;
         climbs = λ g. same refl refl;

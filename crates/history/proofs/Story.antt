@@ -8,7 +8,7 @@ use Rattle.wire.specs.Wire.{be2, be4, joined, part, put, room, fit, placed, ali
 use Rattle.fields.specs.Fields.{Tagged, fld, written, each, tlv, headOf, wellFormed, restFrom, runN, stepAt, fieldAt, viewOf, has, val, holds, twice}
 use Rattle.card.specs.declared.Codes.{Codes}
 use Rattle.card.specs.declared.Card.{Card}
-use Rattle.card.specs.Layout.{pinSize, cidSize, cvcSize, signatureSize, imageRoom}
+use Rattle.card.specs.Layout.{pinSize, cidSize, cvcSize, seedSize, signatureSize, imageRoom}
 use Rattle.card.specs.Image.{encode, encCodes, encFixed, encFlags, encWallet, encKey, encCounters, encBlock, encIssuer, encLast, encFront, encHeld, encFace}
 use Rattle.card.specs.Image.{decode}
 use Rattle.card.specs.Valid.{isCard, okFace, okFront, okHeld, okFlags, okRanges, okState, okKey, keySize, okBlock, okIssuer, okLast}
@@ -38,7 +38,7 @@ run f m i = f .taps .settle m i
 abbrev pub sheet0 : Sheet
 sheet0 =
     record {
-      fixed = record { cid = replicate cidSize 7; cvc = replicate cvcSize 48; curve = 1; max = 5 };
+      fixed = record { cid = replicate cidSize 7; cvc = replicate cvcSize 48; curve = 1; max = 5; seed = replicate seedSize 2 };
       flags = record { reusable = 1; usecvc = 0; setpin1 = 0; setpin2 = 1; nopurge = 0; replay = 1; active = 1 };
       codes = record { pin1 = replicate pinSize 1; pin2 = replicate pinSize 2 };
     }

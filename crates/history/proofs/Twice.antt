@@ -16,13 +16,14 @@ use Rattle.card.specs.declared.Card.{Card}
 use Rattle.card.specs.Image.{decode}
 use Rattle.card.specs.Valid.{isCard}
 use Rattle.manual.specs.Words.{swInvalidParams, swInvalidStatus, questionsRoom, drawSize}
-use Rattle.manual.specs.Tags.{CID, PIN1, PIN2, CVC, NewPIN1, NewPIN2, TransactionHash, TransactionHashSize}
+use Rattle.manual.specs.Tags.{CID, PIN1, PIN2, CVC, NewPIN1, NewPIN2, ResetPIN1, TransactionHash, TransactionHashSize}
 use Rattle.manual.specs.declared.Command.{Command}
 use Rattle.manual.specs.declared.Verdict.{Verdict}
 use Rattle.manual.specs.declared.Verdict.the-variants.{Pass, Stop}
 use Rattle.manual.specs.Request.{lcOf, fits, insOf, listed, command, payload}
 use Rattle.manual.specs.Row.{Row, Rule, rule, gateOf, plain, single, allowed, asksCvc, rules}
 use Rattle.manual.specs.Wallet.{createWallet, setPin, sign}
+use Rattle.manual.specs.Activation.{activateCard}
 use Rattle.manual.specs.Commands.{row}
 use Rattle.manual.specs.Settle.{State, Call, sentIn, matched, judgedBy, judged, done, answered, saidBy, said, saidTo, questionsOf}
 use Rattle.manual.specs.Settle.{askedOf, askedFor, settledOf, lent, settled, outcome, posedBy, untouched, roomy}
@@ -82,13 +83,14 @@ play-model s h (tapped i ∷ es) o = play-model (leaves model s (tapped i)) (add
 pub accepted-once : (f : AnyCard) → Demand2 f → (s : State) (es : List Event) → AllOnce (played f s [] es)
 accepted-once = every (λ f. (s : State) (es : List Event) → AllOnce (played f s [] es)) (λ s es. play-model s [] es tt)
 
--- and the tags that a history's sums read of a command are in its entry: PIN1, PIN2 and CVC, the new codes, the hashes and their size
+-- and the tags that a history's sums read of a command are in its entry: PIN1, PIN2 and CVC, the new codes, Reset_PIN1, the hashes and their size
 pub sums-listed :
     (isOf PIN1 (sign .reads) ≡ true) × (isOf PIN2 (sign .reads) ≡ true) × (isOf CVC (sign .reads) ≡ true)
     × (isOf TransactionHash (sign .reads) ≡ true) × (isOf TransactionHashSize (sign .reads) ≡ true)
     × (isOf PIN1 (createWallet .reads) ≡ true) × (isOf PIN2 (createWallet .reads) ≡ true) × (isOf CVC (createWallet .reads) ≡ true)
     × (isOf NewPIN1 (setPin .reads) ≡ true) × (isOf NewPIN2 (setPin .reads) ≡ true)
-sums-listed = (refl, refl, refl, refl, refl, refl, refl, refl, refl, refl)
+    × (isOf PIN1 (activateCard .reads) ≡ true) × (isOf ResetPIN1 (activateCard .reads) ≡ true)
+sums-listed = (refl, refl, refl, refl, refl, refl, refl, refl, refl, refl, refl, refl)
 
 -- CHECKS 1 TO 5 by name, and what is left of the judgement where they hold
 record Opened (r : Row) (q : List ℕ) : Type 0 where

@@ -28,11 +28,12 @@ use Rattle.story.specs.Sums.{Sheet, History, tap, toldIn, wallets, made, total}
 use Rattle.history.specs.Demands.{allKinds, mayAsk}
 use Rattle.history.proofs.Choice.{by-cases, clash, Did}
 use Rattle.history.proofs.Taps.{Passed}
-use Rattle.history.proofs.Seen.{look, watch, Inv, none-held, none-told}
+use Rattle.history.proofs.Seen.{look, watch, Inv, awake, none-held, none-told}
 use Rattle.history.proofs.Conduct.{Reports, Conduct, quiet, quietly, loaded, emptied, not-purged, same, Climbs}
 use Rattle.history.proofs.Sign.{exact, needed, answer-size, still}
 
-read-reports : (f : Face) (b c : Bool) → isActive f ≡ b → isLoaded f ≡ c → Reports (watch f) (fld CID (f .front .fixed .cid) ∷ readFields f)
+-- what READ_CARD tells, which FE tells too
+pub read-reports : (f : Face) (b c : Bool) → isActive f ≡ b → isLoaded f ≡ c → Reports (watch f) (fld CID (f .front .fixed .cid) ∷ readFields f)
 read-reports f false c e g = rw e (record { state = λ h. refl; signed = λ h. clash h refl; remaining = λ h. clash h refl })
 read-reports f true false e g = rw (e, g) (record { state = λ h. refl; signed = λ h. refl; remaining = λ h. clash h refl })
 read-reports f true true e g = rw (e, g) (record { state = λ h. refl; signed = λ h. refl; remaining = λ h. (refl, eqb-true (f .front .wallet .status) 2 g) })
@@ -50,7 +51,7 @@ module _ (m : Matched) (f : Face) (q d a : List ℕ) where
       record {
         reports = read-reports f (isActive f) (isLoaded f) refl refl;
         asks = refl;
-        keeps = λ sh x h r i t s. rw (t .create, t .pin, t .sign, t .purge) i;
+        keeps = λ sh x h r i t s. rw (t .create, t .pin, t .sign, t .purge, t .activate) i;
         stays = λ o g. o;
         alive = λ u e. clash u refl;
         climbs = λ g. same refl refl;
@@ -62,7 +63,7 @@ module _ (m : Matched) (f : Face) (q d a : List ℕ) where
         reports = quietly _ _ refl;
         asks = refl;
         keeps = λ sh x h r i t s.
-            rw (t .create, t .pin, t .sign, t .purge)
+            rw (t .create, t .pin, t .sign, t .purge, t .activate)
             (record {
               fixed = i .fixed;
               flags = i .flags;
@@ -74,6 +75,7 @@ module _ (m : Matched) (f : Face) (q d a : List ℕ) where
               last = i .last;
               held = i .held;
               balance = i .balance;
+              asleep = i .asleep;
               purged = i .purged;
             });
         stays = λ o g. o;
@@ -114,7 +116,7 @@ of-createWallet m f q d a p =
           let n : f .front .wallet .number < top16 = ltb-true _ _ (p .conditions) in
           let u : f .front .wallet .number ≡ wallets h = i .number in
           let z : f .last .count ≡ 0 = none-held i (λ y. omega (arith, e, i .status)) in
-          rw (t .create, t .pin, t .sign, t .purge)
+          rw (t .create, t .pin, t .sign, t .purge, t .activate)
           (record {
             fixed = i .fixed;
             flags = i .flags;
@@ -126,6 +128,7 @@ of-createWallet m f q d a p =
             last = none-told (f .last) z;
             held = λ y. absurd (omega arith);
             balance = λ y. omega (arith, ap (λ z. z .max) (i .fixed));
+            asleep = λ y. clash (awake i (p .awake)) y;
             purged = λ b c. absurd (not-purged (createWallet .needs) (f .front .wallet .status) (p .allows) refl (i .status ∙ i .purged b c));
           });
       stays = create-stays m f (sentIn q) d a p;
@@ -157,10 +160,10 @@ sign-keeps :
     → (b ≡ true → lastOf (heldLast a) ≡ val Signature (toldIn r)) → (b ≡ true → 0 < f .front .wallet .remaining)
     → (b ≡ true → f .front .wallet .signed + count (sentIn q) ≤ top32) → f .front .wallet .status ≡ 2
     → Inv sh (watch (cond b (signedFace f (count (sentIn q)) a) f)) x (look sh (tap q r ∷ h))
-sign-keeps sh f x h q r a i t false n l y z s = rw (t .create, t .pin, t .sign, t .purge, n) i
+sign-keeps sh f x h q r a i t false n l y z s = rw (t .create, t .pin, t .sign, t .purge, t .activate, n) i
 sign-keeps sh f x h q r a i t true n l y z s =
     let u : f .front .wallet .signed ≡ total h = i .total in
-    rw (t .create, t .pin, t .sign, t .purge, n)
+    rw (t .create, t .pin, t .sign, t .purge, t .activate, n)
     (record {
       fixed = i .fixed;
       flags = i .flags;
@@ -172,6 +175,7 @@ sign-keeps sh f x h q r a i t true n l y z s =
       last = l refl;
       held = λ _. (sym (i .status) ∙ s, omega arith);
       balance = λ s. let b : f .front .wallet .remaining + made h ≡ sh .fixed .max = i .balance s in omega (arith, y refl);
+      asleep = i .asleep;
       purged = i .purged;
     })
 
@@ -207,7 +211,7 @@ of-purgeWallet m f q d a p =
       reports = told-state (purgeWallet .next f (sentIn q) a) _ refl;
       asks = refl;
       keeps = λ sh c h r i t s.
-          rw (t .create, t .pin, t .sign, t .purge)
+          rw (t .create, t .pin, t .sign, t .purge, t .activate)
           (record {
             fixed = i .fixed;
             flags = i .flags;
@@ -219,6 +223,7 @@ of-purgeWallet m f q d a p =
             last = none-told (heldLast []) refl;
             held = λ y. absurd (omega arith);
             balance = λ y. absurd (not-two (sh .flags .reusable) y);
+            asleep = λ y. clash (awake i (p .awake)) y;
             purged = λ b c. rw b refl;
           });
       stays = λ o g.

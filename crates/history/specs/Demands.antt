@@ -2,7 +2,7 @@
 use Prim.Native.Nat.{ℕ, _+_, _-_, _*_, _≤_, _<_}
 use mathlib.Core.Path.{_≡_}
 use mathlib.Core.List.{List, [], _∷_, _++_}
-use mathlib.Core.Bool.{Bool, true, false, cond, _&&_, _||_}
+use mathlib.Core.Bool.{Bool, true, false, cond, not, _&&_, _||_}
 use lib.ListN.{length}
 use lib.Dec.{leb, eqb}
 use Rattle.wire.specs.Wire.{be1, be2, be4, Bytes}
@@ -15,13 +15,15 @@ use Rattle.card.specs.Image.{decode}
 use Rattle.card.specs.Valid.{isCard}
 use Rattle.manual.specs.Words.{swProcessCompleted, swErrorProcessingCommand, questionsRoom, responseRoom, drawSize}
 use Rattle.manual.specs.Words.{swWrongLength, swNeedEncryption, swInvalidStatus, swInvalidParams, swInsNotSupported, swClaNotSupported}
-use Rattle.manual.specs.Tags.{CID, PIN1, PIN2, CVC, Status, Challenge, TransactionHash, Signature, Remaining, SignedHashes}
-use Rattle.manual.specs.declared.Command.the-variants.{CreateWallet, CheckWallet, Sign, PurgeWallet}
+use Rattle.manual.specs.Tags.{CID, PIN1, PIN2, CVC, Status, CurveID, Challenge, ActivationSignature, ResetPIN1, ActivationSeed}
+use Rattle.manual.specs.Tags.{TransactionHash, Signature, Remaining, SignedHashes}
+use Rattle.manual.specs.declared.Command.the-variants.{ReadCard, CreateWallet, CheckWallet, Sign, PurgeWallet, ReadIssuerData, ActivateCard}
 use Rattle.manual.specs.Request.{code, listed, insOf}
 use Rattle.manual.specs.Row.{Question, question, asked, shaped}
-use Rattle.manual.specs.Wallet.{isNew, count, hashQuestions}
+use Rattle.manual.specs.Wallet.{curveName, isNew, count, hashQuestions}
 use Rattle.manual.specs.Wallet.{signFields as hashesSent}
 use Rattle.manual.specs.Checking.{salt}
+use Rattle.manual.specs.Activation.{activationFields}
 use Rattle.manual.specs.Settle.{State, holding, Call, askCall, sentIn, Posed, Settled, askedFor}
 use Rattle.manual.specs.Settle.{settled, settledBy, posed, posedBy, outcome, untouched, over, roomy}
 use Rattle.story.specs.Sums.{Sheet, Tap, History, tap, toldIn, isDone, accepted, ins, did, signedNew}
@@ -189,6 +191,24 @@ pub record NewSign (sh : Sheet) (h : History) (v : View) : Type 0 where
   pub isNew : isNew v ≡ true
   pub hashes : hashesSent v ≡ true
 
+-- an activation was sent to a card that is not activated, on the PIN1 in force, in its form (02 Ask 1)
+pub record Waking (sh : Sheet) (h : History) (v : View) : Type 0 where
+  pub asleep : eqb (active sh h) 1 ≡ false
+  pub pin1 : holds PIN1 v (codes sh h .pin1) ≡ true
+  pub fields : activationFields v ≡ true
+
+-- whether the issuer confirms it: the confirmation, and what it signs, CID, the sheet's seed and Reset_PIN1
+abbrev pub wakeQuestions : Sheet → History → View → List Question
+wakeQuestions sh h v =
+    question 6 (wallets h) (sh .fixed .curve) (val ActivationSignature v ∷ sh .fixed .cid ∷ sh .fixed .seed ∷ val ResetPIN1 v ∷ []) ∷ []
+
+-- READ_CARD's response, of the card after: activated and Empty
+abbrev pub wakeResponse : Sheet → History → List ℕ
+wakeResponse sh h =
+    written
+    (fld CID (sh .fixed .cid) ∷ fld Status (be1 1) ∷ fld CurveID (curveName (sh .fixed .curve)) ∷ fld SignedHashes (be4 (total h)) ∷ [])
+    ++ be2 swProcessCompleted
+
 -- a question of this wallet for each hash, in order
 abbrev pub signQuestions : Sheet → History → View → List Question
 signQuestions sh h v = hashQuestions (wallets h) (sh .fixed .curve) (count v) (val TransactionHash v)
@@ -219,6 +239,13 @@ mayAsk n state k =
     || ((eqb k 1 && (eqb n (code CreateWallet) && eqb state 1))
     || ((eqb k 2 && (eqb n (code Sign) && eqb state 2)) || (eqb k 3 && (eqb n (code CheckWallet) && eqb state 2))))
 
+-- the commands of a card that is not activated, and the kind that it asks
+abbrev pub whileAsleep : ℕ → Bool
+whileAsleep n = eqb n (code ReadCard) || (eqb n (code ReadIssuerData) || eqb n (code ActivateCard))
+
+abbrev pub isWakeKind : ℕ → Bool
+isWakeKind k = eqb k 6
+
 module _ (sh : Sheet) (h : History) (t : Tap) (i : Call) (x : List ℕ) where
   -- what the request sends, and the response
   abbrev v : View
@@ -244,8 +271,16 @@ module _ (sh : Sheet) (h : History) (t : Tap) (i : Call) (x : List ℕ) where
     pub told : val Signature (toldIn r) ≡ given h
     pub bytes : r ≡ signResponse sh (t ∷ h) (given h)
 
+  -- an activation that was accepted was due; it asked whether the issuer confirms it, the answer was yes, and the response is as `bytes` says
+  pub record Woken : Type 0 where
+    pub isDue : Waking sh h v
+    pub questions : questionsRoom ≤ length (i .buffers .page) → x ≡ asked (wakeQuestions sh h v)
+    pub answers : i .answers ≡ 1 ∷ []
+    pub bytes : r ≡ wakeResponse sh h
+
   pub record OneMore : Type 0 where
-    -- accepted or not, SIGN asks for signatures, CREATE_WALLET for a key, CHECK_WALLET for the wallet's word on a challenge, only where that is due;
+    -- accepted or not, SIGN asks for signatures, CREATE_WALLET for a key, CHECK_WALLET for the wallet's word on a challenge, ACTIVATE_CARD for the
+    -- issuer's, only where that is due;
     -- no command asks for what is not its own; and a card that was purged and is not reusable asks neither for a wallet nor for its signature again
     pub signAsks : ins (t .request) ≡ code Sign → Asks (NewSign sh h v) (signQuestions sh h v) x
     pub makeAsks :
@@ -254,11 +289,15 @@ module _ (sh : Sheet) (h : History) (t : Tap) (i : Call) (x : List ℕ) where
         ins (t .request) ≡ code CheckWallet
         → (more : List Question)
         × Asks (Entitled sh h v 2 false) (question 3 (wallets h) (sh .fixed .curve) (val Challenge v ∷ salt (i .draw) ∷ []) ∷ more) x
+    pub wakeAsks : ins (t .request) ≡ code ActivateCard → Asks (Waking sh h v) (wakeQuestions sh h v) x
     pub poses : Poses (mayAsk (ins (t .request)) (status sh h)) x
     pub spared : sh .flags .reusable ≡ 0 → everPurged h ≡ true → Poses isCardKind x
     -- a SIGN that is accepted made new signatures, and they are rightful, or repeats those newly made for the live wallet
     pub signs : signedNew t ≡ true → Rightful
     pub repeats : did Sign t ≡ true → isNew v ≡ false → Repeated
+    -- an activation that is accepted was confirmed; a card that is not activated accepts three commands alone, and asks for that confirmation alone
+    pub wakes : did ActivateCard t ≡ true → Woken
+    pub sleeps : eqb (active sh h) 1 ≡ false → (accepted r ≡ true → whileAsleep (ins (t .request)) ≡ true) × Poses isWakeKind x
     -- what is accepted is a command of the table, was sent on the PIN1 in force, and its response begins with CID
     pub rows : accepted r ≡ true → listed (insOf (ins (t .request))) ≡ true
     pub pin1 : accepted r ≡ true → listed (insOf (ins (t .request))) ≡ true → holds PIN1 v (codes sh h .pin1) ≡ true
@@ -267,11 +306,15 @@ module _ (sh : Sheet) (h : History) (t : Tap) (i : Call) (x : List ℕ) where
     pub state : accepted r ≡ true → has Status (toldIn r) ≡ true → val Status (toldIn r) ≡ be1 (status sh (t ∷ h))
     pub remaining : accepted r ≡ true → has Remaining (toldIn r) ≡ true → val Remaining (toldIn r) ≡ be4 (sh .fixed .max - made (t ∷ h))
     pub signedHashes : accepted r ≡ true → has SignedHashes (toldIn r) ≡ true → val SignedHashes (toldIn r) ≡ be4 (total (t ∷ h))
+    -- READ_CARD tells the sheet's seed up to the activation, and not after it
+    pub seed :
+        did ReadCard t ≡ true
+        → (has ActivationSeed (toldIn r) ≡ not (eqb (active sh h) 1)) × (eqb (active sh h) 1 ≡ false → val ActivationSeed (toldIn r) ≡ sh .fixed .seed)
     -- a card that was purged and is not reusable makes neither wallet nor wallet signature again
     pub ended : sh .flags .reusable ≡ 0 → everPurged h ≡ true → usesWallet (ins (t .request)) ≡ true → (accepted r ≡ false) × (x ≡ [])
 
--- THE CARD that a history left: what is fixed is the sheet's, and so are the flags, but for activated, which the history shows, as it shows Status,
--- wallet number and codes; while a wallet lives, Remaining and the SIGNs that
+-- THE CARD that a history left: what is fixed is the sheet's, the seed with it, and so are the flags, but for activated, which the history shows, as it
+-- shows Status, wallet number and codes; while a wallet lives, Remaining and the SIGNs that
 -- made new signatures since its creation make up the maximum; Signed_Hashes is all hashes newly signed in the card's life, and that fits 32 bits; and the
 -- last signatures are those newly given last, none without a wallet
 pub record Kept (sh : Sheet) (h : History) (c : Card) : Type 0 where

@@ -16,7 +16,8 @@ use Rattle.card.specs.Values.{afterPurge, noKey, noLast}
 use Rattle.card.specs.Image.{decode}
 use Rattle.card.specs.Valid.{isCard}
 use Rattle.manual.specs.Words.{swNeedEncryption, swInvalidParams}
-use Rattle.manual.specs.declared.Command.the-variants.{WriteIssuerData}
+use Rattle.manual.specs.declared.Command.{Command}
+use Rattle.manual.specs.declared.Command.the-variants.{WriteIssuerData, ActivateCard}
 use Rattle.manual.specs.declared.Outcome.{Outcome}
 use Rattle.manual.specs.Request.{code, command, payload}
 use Rattle.manual.specs.Row.{Matched, Question, shaped, Row, Rule, rules}
@@ -69,10 +70,15 @@ pub record Reasoned (r : Outcome) : Type 0 where
   pub word : eqb (r .reason) 0 ≡ false → eqb (r .reason) 4 ≡ false → r .word ≡ checkWord (r .reason)
   pub four : r .reason ≡ 4 → (eqb (r .word) swNeedEncryption || eqb (r .word) swInvalidParams) ≡ true
 
--- check 13: the others hold, the answers have the questions' shape, and the issuer's word on a note is no
+-- the commands that ask for the issuer's word
+pub data AsksIssuer : Command → Type 0 where
+  note : AsksIssuer WriteIssuerData
+  activation : AsksIssuer ActivateCard
+
+-- check 13: the others hold, the answers have the questions' shape, and the issuer's word on a note or an activation is no
 pub record SaidNo (s : State) (i : Call) : Type 0 where
   pub others : AllHold (checksAt s i)
-  pub note : command (i .request) ≡ WriteIssuerData
+  pub issuer : AsksIssuer (command (i .request))
   pub shape : shaped (row (command (i .request)) .questions (decode (s .image) .face) (sentIn (i .request)) (i .draw)) (i .answers) ≡ true
   pub no : i .answers ≡ 0 ∷ []
 

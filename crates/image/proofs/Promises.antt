@@ -16,6 +16,7 @@ use Rattle.image.proofs.pin1 as pin1
 use Rattle.image.proofs.pin2 as pin2
 use Rattle.image.proofs.cid as cid
 use Rattle.image.proofs.cvc as cvc
+use Rattle.image.proofs.seed as seed
 use Rattle.image.proofs.key as key
 use Rattle.image.proofs.user as user
 use Rattle.image.proofs.protected as protected
@@ -58,6 +59,9 @@ cid-one M 𝓤 H A m r κs a g z z′ ws ws′ = plain 𝓤 (λ p q. one-equal p
 
 pub cvc-one : OneSeen cvc.ended (λ M. cvc.clauses {M = M}) (List ℕ) (λ κs z. now z)
 cvc-one M 𝓤 H A m r κs a g z z′ ws ws′ = plain 𝓤 (λ p q. one-equal p q)
+
+pub seed-one : OneSeen seed.ended (λ M. seed.clauses {M = M}) (List ℕ) (λ κs z. now z)
+seed-one M 𝓤 H A m r κs a g z z′ ws ws′ = plain 𝓤 (λ p q. one-equal p q)
 
 pub key-one : OneSeen key.ended (λ M. key.clauses {M = M}) (List ℕ) (λ κs z. now z)
 key-one M 𝓤 H A m r κs a g z z′ ws ws′ = plain 𝓤 (λ p q. one-equal p q)

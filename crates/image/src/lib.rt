@@ -54,6 +54,12 @@ pub fn max(img: &[u8]) -> u32
     wire::get32(img, layout::FIXED_AT as u16 + 12)
 }
 
+pub fn seed(img: &[u8]) -> &[u8]
+    ensures { λ r. ⌜ now r ≡ decode (now (img .entry)) .face .front .fixed .seed ⌝ }
+{
+    wire::part(img, layout::FIXED_AT + 16, Fixed::SEED_SIZE)
+}
+
 pub fn flags(img: &[u8]) -> Flags
     ensures { λ r. ⌜ r ≡ decode (now (img .entry)) .face .front .flags ⌝ }
 {

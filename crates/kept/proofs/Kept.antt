@@ -16,10 +16,10 @@ use Rattle.card.specs.declared.Wallet.{Wallet}
 use Rattle.card.specs.declared.Last.{Last}
 use Rattle.card.specs.declared.Face.{Face}
 use Rattle.card.specs.Layout.{keyRoom, keyShort, dataRoom, signatureSize, mostHashes, lastRoom, top16}
-use Rattle.card.specs.Values.{u8, u16, created, spent, purged, afterPurge, heldKey, heldBlock, heldIssuer, heldLast, lastOf, noLast}
+use Rattle.card.specs.Values.{u8, u16, activated, created, spent, purged, afterPurge, heldKey, heldBlock, heldIssuer, heldLast, lastOf, noLast}
 use Rattle.card.specs.Valid.{isLoaded, keySize, keyTests, blockTests, issuerTests, lastTests}
-use Rattle.card.specs.Valid.{okRanges, okState, okKey, okBlock, okIssuer, okLast, lastOwned, okFace}
-use Rattle.kept.proofs.Tests.{or-true, split, join, ranged, is-ranged, stated, is-stated, valid}
+use Rattle.card.specs.Valid.{okFlags, okRanges, okState, okKey, okBlock, okIssuer, okLast, lastOwned, okFace}
+use Rattle.kept.proofs.Tests.{or-true, split, join, flagged, ranged, is-ranged, stated, is-stated, valid}
 
 or-left : (a : Bool) → (a || false) ≡ true → a ≡ true
 or-left true e = refl
@@ -115,6 +115,17 @@ module _ (x : Fixed) (g : Flags) (w : Wallet) (ranges : okRanges x w ≡ true) (
               asleep = rw awake;
             }),
         or-true (eqb (next .status) 2) refl,
+      )
+
+-- FE: activated, in whatever state
+module _ (g : Flags) (w : Wallet) where
+  pub keeps-activate : okFlags g ≡ true → okState g w ≡ true → (okFlags (activated g) ≡ true) × (okState (activated g) w ≡ true)
+  unfolding okFlags
+  keeps-activate flags state =
+      let x = flagged g flags in
+      let s = stated g w state in (
+        rw (x .reusable, x .usecvc, x .setpin1, x .setpin2, x .nopurge, x .replay),
+        is-stated (activated g) w (record { begun = s .begun; once = s .once; purges = s .purges; asleep = refl }),
       )
 
 -- WHAT IS HELD: a key of the size that curve and status ask for, where it fills its room only with 04 in front

@@ -2,6 +2,7 @@
 use mathlib.Core.Path.{_≡_, ap, _∙_}
 use mathlib.Core.Bool.{true, _||_}
 use lib.Dec.{eqb}
+use Rattle.card.specs.declared.Flags.{Flags}
 use Rattle.card.specs.declared.Wallet.{Wallet}
 use Rattle.card.specs.declared.Key.{Key}
 use Rattle.card.specs.declared.Counters.{Counters}
@@ -10,8 +11,8 @@ use Rattle.card.specs.declared.Issuer.{Issuer}
 use Rattle.card.specs.declared.Last.{Last}
 use Rattle.card.specs.declared.Held.{Held}
 use Rattle.card.specs.declared.Face.{Face}
-use Rattle.card.specs.Values.{holding, withWallet, withKey, withCounters, withUser, withProtected, withIssuer, withLast}
-use Rattle.card.specs.Valid.{okRanges, okState, okKey, okBlock, okIssuer, okLast, lastOwned, okFront, okFace}
+use Rattle.card.specs.Values.{holding, withFlags, withWallet, withKey, withCounters, withUser, withProtected, withIssuer, withLast}
+use Rattle.card.specs.Valid.{okFlags, okRanges, okState, okKey, okBlock, okIssuer, okLast, lastOwned, okFront, okFace}
 use Rattle.kept.proofs.Tests.{valid, is-valid}
 
 module _ (f : Face) (ok : okFace f ≡ true) where
@@ -47,6 +48,23 @@ module _ (f : Face) (ok : okFace f ≡ true) where
 
   pub ok-last : (x : Last) → okLast x ≡ true → lastOwned (f .front .wallet) x ≡ true → okFace (withLast x f) ≡ true
   ok-last x e owned = let v = valid f ok in ok-own (f .front .wallet) (f .front .key) x (v .ranges) (v .state) (v .key) e owned
+
+  -- FE
+  pub ok-flags : (g : Flags) → okFlags g ≡ true → okState g (f .front .wallet) ≡ true → okFace (withFlags g f) ≡ true
+  ok-flags g flags state =
+      let v = valid f ok in
+      is-valid (withFlags g f)
+      (record {
+        flags = flags;
+        ranges = v .ranges;
+        state = state;
+        key = v .key;
+        user = v .user;
+        protected = v .protected;
+        issuer = v .issuer;
+        last = v .last;
+        owned = v .owned;
+      })
 
   pub ok-counters : (x : Counters) → okFace (withCounters x f) ≡ true
   unfolding okFace okFront

@@ -1,11 +1,12 @@
--- One row a command: 01, "The commands". Assumes nothing.
+-- One row a command: 01, "The commands", and 02 Ask 1. Assumes nothing.
 use Rattle.manual.specs.declared.Command.{Command}
-use Rattle.manual.specs.declared.Command.the-variants.{ReadCard, CreateWallet, CheckWallet, SetPin, Sign, VerifyCard}
-use Rattle.manual.specs.declared.Command.the-variants.{ValidateCard, PurgeWallet, ReadUserData, WriteUserData, WriteIssuerData, ReadIssuerData}
+use Rattle.manual.specs.declared.Command.the-variants.{ReadCard, CreateWallet, CheckWallet, SetPin, Sign, VerifyCard, ValidateCard, PurgeWallet}
+use Rattle.manual.specs.declared.Command.the-variants.{ReadUserData, WriteUserData, WriteIssuerData, ReadIssuerData, ActivateCard}
 use Rattle.manual.specs.Row.{Row}
 use Rattle.manual.specs.Wallet.{readCard, createWallet, setPin, sign, purgeWallet}
 use Rattle.manual.specs.Checking.{checkWallet, verifyCard, validateCard}
 use Rattle.manual.specs.Storage.{readUserData, writeUserData, writeIssuerData, readIssuerData}
+use Rattle.manual.specs.Activation.{activateCard}
 
 abbrev pub row : Command → Row
 row ReadCard = readCard
@@ -20,3 +21,4 @@ row ReadUserData = readUserData
 row WriteUserData = writeUserData
 row WriteIssuerData = writeIssuerData
 row ReadIssuerData = readIssuerData
+row ActivateCard = activateCard

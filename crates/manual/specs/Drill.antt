@@ -12,7 +12,7 @@ use Rattle.card.specs.declared.Flags.{Flags}
 use Rattle.card.specs.declared.Codes.{Codes}
 use Rattle.card.specs.declared.Face.{Face}
 use Rattle.card.specs.declared.Card.{Card}
-use Rattle.card.specs.Layout.{pinSize, cidSize, cvcSize, signatureSize, imageSize, imageRoom}
+use Rattle.card.specs.Layout.{pinSize, cidSize, cvcSize, seedSize, signatureSize, imageSize, imageRoom}
 use Rattle.card.specs.Values.{heldKey, noBlock, noLast, blockOf}
 use Rattle.card.specs.Image.{encode, encCodes, encFront, encHeld, encFace, encFixed, encFlags}
 use Rattle.card.specs.Image.{encWallet, encKey, encCounters, encBlock, encIssuer, encLast, decode}
@@ -42,7 +42,7 @@ card0 remaining signed counted stored =
     record {
       face = record {
         front = record {
-          fixed = record { cid = cid0; cvc = replicate cvcSize 48; curve = 1; max = 100 };
+          fixed = record { cid = cid0; cvc = replicate cvcSize 48; curve = 1; max = 100; seed = replicate seedSize 0 };
           flags = flags0;
           wallet = record { status = 2; number = 1; remaining = remaining; signed = signed };
           key = heldKey (4 ∷ replicate 64 8);

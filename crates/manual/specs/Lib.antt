@@ -5,6 +5,7 @@ pub mod Row
 pub mod Wallet
 pub mod Checking
 pub mod Storage
+pub mod Activation
 pub mod Commands
 pub mod Settle
 pub mod Drill

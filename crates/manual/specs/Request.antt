@@ -7,7 +7,7 @@ use lib.Dec.{ltb, eqb}
 use Rattle.manual.specs.Words.{leastRequest, mostRequest}
 use Rattle.manual.specs.declared.Command.{Command}
 use Rattle.manual.specs.declared.Command.the-variants.{ReadCard, CreateWallet, CheckWallet, SetPin, Sign, VerifyCard, ValidateCard, PurgeWallet}
-use Rattle.manual.specs.declared.Command.the-variants.{ReadUserData, WriteUserData, WriteIssuerData, ReadIssuerData}
+use Rattle.manual.specs.declared.Command.the-variants.{ReadUserData, WriteUserData, WriteIssuerData, ReadIssuerData, ActivateCard}
 use Rattle.manual.specs.declared.Ins.{Ins}
 use Rattle.manual.specs.declared.Ins.the-variants.{Listed, Unlisted}
 use Rattle.manual.specs.declared.Lc.{Lc}
@@ -52,11 +52,12 @@ code ReadUserData = 0xE1
 code WriteUserData = 0xE0
 code WriteIssuerData = 0xF6
 code ReadIssuerData = 0xF7
+code ActivateCard = 0xFE
 
 abbrev pub commands : List Command
 commands =
     ReadCard ∷ CreateWallet ∷ CheckWallet ∷ SetPin ∷ Sign ∷ VerifyCard ∷ ValidateCard ∷ PurgeWallet
-    ∷ ReadUserData ∷ WriteUserData ∷ WriteIssuerData ∷ ReadIssuerData ∷ []
+    ∷ ReadUserData ∷ WriteUserData ∷ WriteIssuerData ∷ ReadIssuerData ∷ ActivateCard ∷ []
 
 -- the command with this INS, among some
 abbrev pub listedIn : List Command → ℕ → Ins

@@ -53,14 +53,17 @@ exactly n g = record { least = n; most = n; first = g }
 abbrev pub anyByte : ℕ → Bool
 anyByte b = true
 
--- kind 1: the key, of 65 bytes starting 04 or of 32; kind 5: one byte, 0 or 1; kinds 2 to 4: 64 bytes
+-- kind 1: the key, of 65 bytes starting 04 or of 32; kinds 5 and 6, whether the issuer signed: one byte, 0 or 1; kinds 2 to 4: 64 bytes
 abbrev pub keyAnswer : ℕ → Answer
 keyAnswer curve = cond (eqb curve 1) (exactly keyRoom (λ b. eqb b 4)) (exactly keyShort anyByte)
+
+abbrev pub yesOrNo : ℕ → Bool
+yesOrNo kind = eqb kind 5 || eqb kind 6
 
 abbrev pub answerTo : Question → Answer
 answerTo x =
     cond (eqb (x .kind) 1) (keyAnswer (x .curve))
-    (cond (eqb (x .kind) 5) (exactly 1 (λ b. leb b 1))
+    (cond (yesOrNo (x .kind)) (exactly 1 (λ b. leb b 1))
     (exactly signatureSize anyByte))
 
 abbrev pub fitting : Answer → List ℕ → Bool
@@ -71,6 +74,10 @@ unfoldable pub shaped : List Question → List ℕ → Bool
 shaped [] a = eqb (length a) 0
 shaped (x ∷ []) a = fitting (answerTo x) a
 shaped (x ∷ y ∷ ys) a = fitting (answerTo x) (take (answerTo x .least) a) && shaped (y ∷ ys) (drop (answerTo x .least) a)
+
+-- the answer yes
+abbrev pub yes : List ℕ → Bool
+yes a = eqb (getD a 0 0) 1
 
 -- how the codes of a request compare with those of the card: all that is ever seen of them
 pub record Matched : Type 0 where

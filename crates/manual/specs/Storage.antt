@@ -2,7 +2,7 @@
 use Prim.Native.Nat.{ℕ}
 use mathlib.Core.List.{List, [], _∷_, _++_}
 use mathlib.Core.Bool.{Bool, true, false, cond, not, _&&_, _||_}
-use lib.ListN.{length, getD}
+use lib.ListN.{length}
 use lib.Dec.{ltb, leb, eqb}
 use Rattle.wire.specs.Wire.{be4, num32, alike}
 use Rattle.fields.specs.Fields.{View, has, val, Tagged, fld}
@@ -13,7 +13,7 @@ use Rattle.card.specs.Layout.{dataRoom, signatureSize}
 use Rattle.card.specs.Values.{heldBlock, heldIssuer, blockOf, withUser, withProtected, withCounters, withIssuer}
 use Rattle.manual.specs.Tags.{CID, PIN1, PIN2}
 use Rattle.manual.specs.Tags.{Mode, UserData, UserProtectedData, UserCounter, UserProtectedCounter, IssuerData, IssuerDataSignature, IssuerDataCounter}
-use Rattle.manual.specs.Row.{question, Row, stays}
+use Rattle.manual.specs.Row.{question, yes, Row, stays}
 
 -- a field with held data, only if not empty
 abbrev pub heldField : ℕ → List ℕ → List Tagged
@@ -132,7 +132,7 @@ writeIssuerData =
       fields = issuerFields;
       conditions = λ m f v. not (guarded f) || ltb (f .held .issuer .counter) (sentCounter v);
       questions = λ f v d. question 5 (f .front .wallet .number) (f .front .fixed .curve) (issuerMessage f v) ∷ [];
-      confirmed = λ a. eqb (getD a 0 0) 1;
+      confirmed = yes;
       next = λ f v a. issuerFace f v;
       recode = stays;
       fieldsOut = λ f v d a. [];

@@ -64,11 +64,20 @@ IssuerData = 0x32
 abbrev pub IssuerDataSignature : ℕ
 IssuerDataSignature = 0x33
 
+abbrev pub ActivationSignature : ℕ
+ActivationSignature = 0x34
+
 abbrev pub IssuerDataCounter : ℕ
 IssuerDataCounter = 0x35
 
+abbrev pub ResetPIN1 : ℕ
+ResetPIN1 = 0x36
+
 abbrev pub IsActivated : ℕ
 IsActivated = 0x3A
+
+abbrev pub ActivationSeed : ℕ
+ActivationSeed = 0x3B
 
 abbrev pub TransactionHash : ℕ
 TransactionHash = 0x50

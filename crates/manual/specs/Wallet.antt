@@ -11,7 +11,7 @@ use Rattle.card.specs.declared.Codes.{Codes}
 use Rattle.card.specs.Layout.{pinSize, mostHashes, top16, top32}
 use Rattle.card.specs.Values.{u16, created, spent, purged, risen, heldKey, heldLast, keyOf, lastOf, withWallet, withKey, withCounters, withLast}
 use Rattle.manual.specs.Words.{hashSize}
-use Rattle.manual.specs.Tags.{CID, Status, CurveID, PIN1, PIN2, NewPIN1, NewPIN2, CVC, IsActivated}
+use Rattle.manual.specs.Tags.{CID, Status, CurveID, PIN1, PIN2, NewPIN1, NewPIN2, CVC, IsActivated, ActivationSeed}
 use Rattle.manual.specs.Tags.{TransactionHash, TransactionHashSize, WalletPublicKey, Signature, Remaining, SignedHashes}
 use Rattle.manual.specs.declared.Signing.{Signing}
 use Rattle.manual.specs.declared.Signing.the-variants.{New, Again}
@@ -30,15 +30,19 @@ isActive f = eqb (f .front .flags .active) 1
 unfoldable pub curveName : ℕ → List ℕ
 curveName n = cond (eqb n 1) (0x73 ∷ 0x65 ∷ 0x63 ∷ 0x70 ∷ 0x32 ∷ 0x35 ∷ 0x36 ∷ 0x6B ∷ 0x31 ∷ []) (0x65 ∷ 0x64 ∷ 0x32 ∷ 0x35 ∷ 0x35 ∷ 0x31 ∷ 0x39 ∷ [])
 
--- F2 READ_CARD: Status; not activated: Is_Activated and no more; else Curve_ID, Signed_Hashes, and when Loaded the key and Remaining
+-- F2 READ_CARD: Status; not activated: Is_Activated and the seed (02 Ask 1), and no more; else Curve_ID, Signed_Hashes, and when Loaded the key and
+-- Remaining
 abbrev pub walletFields : Face → List Tagged
 walletFields f = cond (isLoaded f) (fld WalletPublicKey (keyOf (f .front .key)) ∷ fld Remaining (be4 (f .front .wallet .remaining)) ∷ []) []
 
 abbrev pub activeFields : Face → List Tagged
 activeFields f = fld CurveID (curveName (f .front .fixed .curve)) ∷ fld SignedHashes (be4 (f .front .wallet .signed)) ∷ walletFields f
 
+abbrev pub asleepFields : Face → List Tagged
+asleepFields f = fld IsActivated (be1 0) ∷ fld ActivationSeed (f .front .fixed .seed) ∷ []
+
 abbrev pub readFields : Face → List Tagged
-readFields f = statusField f ∷ cond (isActive f) (activeFields f) (fld IsActivated (be1 0) ∷ [])
+readFields f = statusField f ∷ cond (isActive f) (activeFields f) (asleepFields f)
 
 abbrev pub readCard : Row
 readCard =

@@ -14,6 +14,7 @@ pub enum Command {
     WriteUserData,
     WriteIssuerData,
     ReadIssuerData,
+    ActivateCard,
 }
 
 // Check 3.

@@ -41,9 +41,15 @@ pub const ISSUER_DATA: u8 = 0x32;
 
 pub const ISSUER_DATA_SIGNATURE: u8 = 0x33;
 
+pub const ACTIVATION_SIGNATURE: u8 = 0x34;
+
 pub const ISSUER_DATA_COUNTER: u8 = 0x35;
 
+pub const RESET_PIN1: u8 = 0x36;
+
 pub const IS_ACTIVATED: u8 = 0x3A;
+
+pub const ACTIVATION_SEED: u8 = 0x3B;
 
 pub const TRANSACTION_HASH: u8 = 0x50;
 

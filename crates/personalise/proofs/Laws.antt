@@ -43,7 +43,7 @@ pub sheet-shape : (s : List ℕ) → Shape (sheetCard s)
 unfolding sheetCard sheetFixed sheetCodes
 sheet-shape s =
     shape-fresh (sheetFixed s) (sheetFlags s) (sheetCodes s)
-    (record { cid = length-pad 8 (unhex (valueOf 1 s)); cvc = length-pad 3 (valueOf 4 s) })
+    (record { cid = length-pad 8 (unhex (valueOf 1 s)); cvc = length-pad 3 (valueOf 4 s); seed = length-pad 16 (unhex (valueOf 14 s)) })
     (record { pin1 = length-pad 32 (unhex (valueOf 2 s)); pin2 = length-pad 32 (unhex (valueOf 3 s)) })
 
 pub fresh-image : (s out : List ℕ) → imageRoom ≤ length out → firstBad s ≡ 0 → take imageSize (personalised s out .image) ≡ encode (sheetCard s)

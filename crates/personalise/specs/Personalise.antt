@@ -26,7 +26,14 @@ sheetCodes s = record { pin1 = pad 32 (unhex (valueOf 2 s)); pin2 = pad 32 (unhe
 
 -- cvc is stored as characters
 unfoldable pub sheetFixed : List ℕ → Fixed
-sheetFixed s = record { cid = pad 8 (unhex (valueOf 1 s)); cvc = pad 3 (valueOf 4 s); curve = curveOf (valueOf 5 s); max = maxOf (valueOf 6 s) }
+sheetFixed s =
+    record {
+      cid = pad 8 (unhex (valueOf 1 s));
+      cvc = pad 3 (valueOf 4 s);
+      curve = curveOf (valueOf 5 s);
+      max = maxOf (valueOf 6 s);
+      seed = pad 16 (unhex (valueOf 14 s));
+    }
 
 unfoldable pub sheetFlags : List ℕ → Flags
 sheetFlags s =

@@ -30,6 +30,14 @@ fn hex8(v: &[u8]) -> [u8; 8]
     a
 }
 
+fn hex16(v: &[u8]) -> [u8; 16]
+    ensures { λ r. ⌜ r ≡ pad 16 (unhex (now (v .entry))) ⌝ }
+{
+    let mut a = [0u8; 16];
+    text::unhex(v, &mut a, 0);
+    a
+}
+
 fn hex32(v: &[u8]) -> [u8; 32]
     ensures { λ r. ⌜ r ≡ pad 32 (unhex (now (v .entry))) ⌝ }
 {
@@ -55,6 +63,7 @@ fn fixed_of(sheet: &[u8]) -> Fixed
         cvc: wire::pad3(value_of(sheet, 4)),
         curve: sheet::curve_of(value_of(sheet, 5)),
         max: sheet::max_of(value_of(sheet, 6)),
+        seed: hex16(value_of(sheet, 14)),
     }
 }
 

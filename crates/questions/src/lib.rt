@@ -18,6 +18,7 @@ ghost use Rattle.manual.specs.Commands.{row};
 ghost use Rattle.manual.specs.Wallet.{createWallet, sign, hashQuestions};
 ghost use Rattle.manual.specs.Checking.{salt, keySalt, checkWallet, verifyCard, validateCard};
 ghost use Rattle.manual.specs.Storage.{writeIssuerData, counterBytes};
+ghost use Rattle.manual.specs.Activation.{activateCard};
 ghost use Rattle.questions.specs.Keyed.{keyQuestion};
 
 // The kinds of question.
@@ -30,6 +31,8 @@ pub const SIGN_BY_WALLET: u8 = 3;
 pub const SIGN_BY_CARD: u8 = 4;
 
 pub const SIGNED_BY_ISSUER: u8 = 5;
+
+pub const CONFIRMED_BY_ISSUER: u8 = 6;
 
 // From the front of the buffer.
 pub fn pose(
@@ -57,6 +60,7 @@ pub fn pose(
         Command::WriteUserData => 0,
         Command::WriteIssuerData => pose_issuer(img, p, places, out),
         Command::ReadIssuerData => 0,
+        Command::ActivateCard => pose_activation(img, p, places, out),
     }
 }
 
@@ -311,4 +315,25 @@ fn pose_issuer(img: &[u8], p: &[u8], places: &Places, out: &mut [u8]) -> usize
         sent::value(p, places, tag::ISSUER_DATA),
         counter_bytes(img, p, places),
     )
+}
+
+// FE: the confirmation, and CID, seed and Reset_PIN1, which it signs. Four parts by itself and not by `put_note`: a function that both call
+// would be called and not inlined, and a note would pay for it.
+fn pose_activation(img: &[u8], p: &[u8], places: &Places, out: &mut [u8]) -> usize
+    ensures { λ r. ⌜ ((d : List ℕ) → Wrotes (now (out .entry)) 0
+        (eachAsked (activateCard .questions (decode (now (img .entry)) .face) (viewBy (now (p .entry)) (now (places .entry))) d))
+        (now (out .exit)) r) ⌝ }
+{
+    let wallet = image::wallet(img);
+    let signature = sent::value(p, places, tag::ACTIVATION_SIGNATURE);
+    let cid = image::cid(img);
+    let seed = image::seed(img);
+    let reset = sent::value(p, places, tag::RESET_PIN1);
+    let n = signature.len() % 65536 + cid.len() % 65536 + seed.len() % 65536 + reset.len() % 65536;
+    let curve = image::curve(img);
+    let a = put_head(out, 0, CONFIRMED_BY_ISSUER, wallet.number, curve, in_two(n));
+    let b = wire::put_bytes(out, a, signature);
+    let c = wire::put_bytes(out, b, cid);
+    let d = wire::put_bytes(out, c, seed);
+    wire::put_bytes(out, d, reset)
 }

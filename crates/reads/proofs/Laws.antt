@@ -14,7 +14,7 @@ use Rattle.sent.specs.Sent.{places, unmarked, viewBy}
 use Rattle.sent.proofs.Laws.{not-twice}
 use Rattle.manual.specs.declared.Command.{Command}
 use Rattle.manual.specs.declared.Command.the-variants.{ReadCard, CreateWallet, CheckWallet, SetPin, Sign, VerifyCard, ValidateCard, PurgeWallet}
-use Rattle.manual.specs.declared.Command.the-variants.{ReadUserData, WriteUserData, WriteIssuerData, ReadIssuerData}
+use Rattle.manual.specs.declared.Command.the-variants.{ReadUserData, WriteUserData, WriteIssuerData, ReadIssuerData, ActivateCard}
 use Rattle.manual.specs.Row.{single}
 use Rattle.manual.specs.Commands.{row}
 
@@ -60,6 +60,7 @@ below ReadUserData = refl
 below WriteUserData = refl
 below WriteIssuerData = refl
 below ReadIssuerData = refl
+below ActivateCard = refl
 
 pub none-marked : (p l : List ℕ) (k : Command) → unmarked l ≡ true → true ≡ single (row k .reads) (viewBy p l)
 none-marked p l k e = sym (none-single p l e (row k .reads) (below k))

@@ -11,6 +11,7 @@ ghost use Rattle.manual.specs.Row.{single};
 ghost use Rattle.manual.specs.Wallet.{setPin, sign};
 ghost use Rattle.manual.specs.Checking.{checkWallet};
 ghost use Rattle.manual.specs.Storage.{writeUserData, writeIssuerData};
+ghost use Rattle.manual.specs.Activation.{activateCard};
 ghost use Rattle.manual.specs.Commands.{row};
 
 fn is_twice(tag: u8, p: &[u8], places: &Places) -> bool
@@ -106,6 +107,18 @@ fn write_issuer_data(p: &[u8], places: &Places) -> bool
     all_single(&tags, p, places)
 }
 
+fn activate_card(p: &[u8], places: &Places) -> bool
+    ensures { λ r. ⌜ r ≡ single (activateCard .reads) (viewBy (now (p .entry)) (now (places .entry))) ⌝ }
+{
+    let tags = [
+        tag::PIN1,
+        tag::CID,
+        tag::RESET_PIN1,
+        tag::ACTIVATION_SIGNATURE,
+    ];
+    all_single(&tags, p, places)
+}
+
 // By the command's list.
 fn listed(cmd: Command, p: &[u8], places: &Places) -> bool
     ensures { λ r. ⌜ r ≡ single (row cmd .reads) (viewBy (now (p .entry)) (now (places .entry))) ⌝ }
@@ -125,6 +138,7 @@ fn listed(cmd: Command, p: &[u8], places: &Places) -> bool
         Command::WriteUserData => write_user_data(p, places),
         Command::WriteIssuerData => write_issuer_data(p, places),
         Command::ReadIssuerData => all_single(&[tag::PIN1, tag::CID, tag::MODE], p, places),
+        Command::ActivateCard => activate_card(p, places),
     }
 }
 

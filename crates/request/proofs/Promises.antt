@@ -7,6 +7,7 @@ use Rattle.wire.proofs.Unique.{one-equal}
 use Rattle.request.proofs.lc_of as lc-of
 use Rattle.request.proofs.command as command
 use Rattle.request.proofs.signing as signing
+use Rattle.request.proofs.resets as resets
 use Rattle.request.proofs.sent_counter as sent-counter
 use Rattle.request.proofs.payload as payload
 use Rattle.request.proofs.body as body
@@ -19,6 +20,9 @@ command-one M 𝓤 H A m r κs a g z z′ ws ws′ = plain 𝓤 (λ p q. one-equ
 
 pub signing-one : OneOutcome signing.ended (λ M. signing.clauses {M = M})
 signing-one M 𝓤 H A m r κs a g z z′ ws ws′ = plain 𝓤 (λ p q. one-equal p q)
+
+pub resets-one : OneOutcome resets.ended (λ M. resets.clauses {M = M})
+resets-one M 𝓤 H A m r κs a g z z′ ws ws′ = plain 𝓤 (λ p q. one-equal p q)
 
 pub sent-counter-one : OneOutcome sent-counter.ended (λ M. sent-counter.clauses {M = M})
 sent-counter-one M 𝓤 H A m r κs a g z z′ ws ws′ = plain 𝓤 (λ p q. one-equal p q)

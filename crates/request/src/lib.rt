@@ -11,6 +11,7 @@ ghost use Rattle.sent.specs.Sent.{viewBy};
 ghost use Rattle.manual.specs.Request.{lcOf, insOf, payload, bodyIn};
 ghost use Rattle.manual.specs.Wallet.{signing};
 ghost use Rattle.manual.specs.Storage.{sentCounter};
+ghost use Rattle.manual.specs.Activation.{resets};
 
 // Where the payload begins: after an Lc of one byte or of three, and the request ends with it.
 pub fn lc_of(q: &[u8]) -> Lc
@@ -75,6 +76,7 @@ fn ins_of(ins: u8) -> Ins
         0xE0 => Ins::Listed(Command::WriteUserData),
         0xF6 => Ins::Listed(Command::WriteIssuerData),
         0xF7 => Ins::Listed(Command::ReadIssuerData),
+        0xFE => Ins::Listed(Command::ActivateCard),
         _ => Ins::Unlisted,
     }
 }
@@ -97,6 +99,14 @@ pub fn signing(p: &[u8], places: &Places) -> Signing
         return Signing::New(hashes.len());
     }
     Signing::Again
+}
+
+// Whether an activation is to reset PIN1.
+pub fn resets(p: &[u8], places: &Places) -> bool
+    ensures { λ r. ⌜ r ≡ resets (viewBy (now (p .entry)) (now (places .entry))) ⌝ }
+{
+    let reset = [1u8];
+    wire::equal(sent::value(p, places, tag::RESET_PIN1), &reset)
 }
 
 // The counter that a note is sent with.

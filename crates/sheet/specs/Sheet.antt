@@ -1,4 +1,4 @@
--- The personalisation sheet, 01 "The personalisation sheet": its lines, and the first bad one. Every definition is total. Assumes nothing.
+-- The personalisation sheet, 01 "The personalisation sheet" and 02 Ask 1: its lines, and the first bad one. Every definition is total. Assumes nothing.
 use Prim.Native.Nat.{ℕ, zero, suc, _+_}
 use mathlib.Core.Bool.{Bool, false, cond, _&&_}
 use mathlib.Core.List.{List, [], _∷_}
@@ -63,11 +63,12 @@ rows =
     ∷ record { name = ascii "nopurge"; good = isFlag }
     ∷ record { name = ascii "replay"; good = isFlag }
     ∷ record { name = ascii "active"; good = isFlag }
+    ∷ record { name = ascii "seed"; good = isHexOf 32 }
     ∷ []
 
 -- how many they are
 abbrev pub sheetLines : ℕ
-sheetLines = 13
+sheetLines = 14
 
 -- the lines that may follow them, in this order: today there are none
 unfoldable pub optional : List Row

@@ -11,7 +11,7 @@ ghost use Rattle.sheet.specs.Sheet.{isHexOf, isCvc, curveOf, isCurve, co
 ghost use Rattle.sheet.specs.Sheet.{rowOf, goodRow, goodLine, firstBad, belongs, lineAfter};
 
 // The lines of a sheet.
-pub const LINES: u32 = 13;
+pub const LINES: u32 = 14;
 
 // The values: what each spells, and 0, 0 or 2 where it is none.
 
@@ -106,6 +106,7 @@ fn good_row(line: u32, name: &[u8], value: &[u8]) -> bool
         11 => flag_row(name, b"nopurge", value),
         12 => flag_row(name, b"replay", value),
         13 => flag_row(name, b"active", value),
+        14 => hex_row(name, b"seed", value, 32),
         _ => false,
     }
 }

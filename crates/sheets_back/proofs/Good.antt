@@ -82,7 +82,7 @@ module _ (s : List ℕ) (e : firstBad s ≡ 0) where
   unfolding sheetCard sheetFixed sheetCodes
   sheet-is-card =
       fresh-is-card (sheetFixed s) (sheetFlags s) (sheetCodes s)
-      (record { cid = length-pad 8 (unhex (valueOf 1 s)); cvc = length-pad 3 (valueOf 4 s) })
+      (record { cid = length-pad 8 (unhex (valueOf 1 s)); cvc = length-pad 3 (valueOf 4 s); seed = length-pad 16 (unhex (valueOf 14 s)) })
       (record { pin1 = length-pad 32 (unhex (valueOf 2 s)); pin2 = length-pad 32 (unhex (valueOf 3 s)) })
       curve-known max-known flags-known
 
@@ -99,7 +99,8 @@ none-empty (r ∷ rs) x (suc k) = none-empty rs (x .1) k
 
 no-empty : (k : ℕ) → rowOf k .good [] ≡ false
 unfolding rowOf noRow isHexOf isCvc isCurve curveOf isMax maxOf countOf numberOf plainDecimal allOf isFlag flagOf alike
-no-empty k = none-empty (noRow ∷ rows) (refl, (refl, (refl, (refl, (refl, (refl, (refl, (refl, (refl, (refl, (refl, (refl, (refl, (refl, tt)))))))))))))) k
+no-empty k =
+    none-empty (noRow ∷ rows) (refl, (refl, (refl, (refl, (refl, (refl, (refl, (refl, (refl, (refl, (refl, (refl, (refl, (refl, (refl, tt))))))))))))))) k
 
 tabbed : (k : ℕ) (l : List ℕ) → rowOf k .good (tailAfter 9 l) ≡ true → lengthTo 9 l < length l
 unfolding tailAfter

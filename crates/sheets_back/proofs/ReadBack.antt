@@ -132,9 +132,16 @@ digits-whole v h = all-other isDigit 10 refl v h
 
 -- EVERY LINE of a card's sheet
 module _ (c : Card) (r : InRange c) where
-  flag-lines : Lines 7 (flagValues (c .face .front .flags))
+  seed-line : Line 14 (hexOf (c .face .front .fixed .seed))
   unfolding rowOf allOf
-  flag-lines =
+  seed-line =
+      let f = c .face .front .fixed in
+      let x = r .fixed in
+      record { tab = refl; feed = refl; whole = hex-whole (f .seed) (x .seed-bytes); good = hex-value 16 (f .seed) (x .seed) (x .seed-bytes) }
+
+  later-lines : Lines 7 (flagValues (c .face .front .flags) ++ (hexOf (c .face .front .fixed .seed) ∷ []))
+  unfolding rowOf allOf
+  later-lines =
       let g = c .face .front .flags in
       let x = r .flags in
       let line7 : Line 7 (flagText (g .reusable)) =
@@ -151,7 +158,7 @@ module _ (c : Card) (r : InRange c) where
       record { tab = refl; feed = refl; whole = flag-whole (g .replay) (x .replay); good = flag-good (g .replay) (x .replay) } in
       let line13 : Line 13 (flagText (g .active)) =
       record { tab = refl; feed = refl; whole = flag-whole (g .active) (x .active); good = flag-good (g .active) (x .active) } in
-      (line7, (line8, (line9, (line10, (line11, (line12, (line13, tt)))))))
+      (line7, (line8, (line9, (line10, (line11, (line12, (line13, (seed-line, tt))))))))
 
   lines : Lines 1 (values c)
   unfolding rowOf allOf isCvc
@@ -172,7 +179,7 @@ module _ (c : Card) (r : InRange c) where
       let w = digits-whole (decimalOf (f .max)) (isDigits-decimalOf (f .max)) in
       let line6 : Line 6 (decimalOf (f .max)) =
       record { tab = refl; feed = refl; whole = w; good = max-good (f .max) (x .max .0) (x .max .1) } in
-      (line1, (line2, (line3, (line4, (line5, (line6, flag-lines))))))
+      (line1, (line2, (line3, (line4, (line5, (line6, later-lines))))))
 
   starts : fromLine 1 (sheetText c) ≡ textFrom 1 (values c)
   unfolding fromLine startOf sheetText
@@ -195,7 +202,8 @@ module _ (c : Card) (r : InRange c) where
       let cvc = ap (pad 3) (value 3 (omega arith)) ∙ pad-whole 3 (f .cvc) (x .cvc) in
       let curve = ap curveOf (value 4 (omega arith)) ∙ curve-back (f .curve) (x .curve .0) (x .curve .1) in
       let max = ap maxOf (value 5 (omega arith)) ∙ max-back (f .max) (x .max .1) in
-      λ i. record { cid = cid i; cvc = cvc i; curve = curve i; max = max i }
+      let seed = ap (λ (v : List ℕ). pad 16 (unhex v)) (value 13 (omega arith)) ∙ hex-back 16 (f .seed) (x .seed) (x .seed-bytes) in
+      λ i. record { cid = cid i; cvc = cvc i; curve = curve i; max = max i; seed = seed i }
 
   codes-back : sheetCodes (sheetText c) ≡ c .codes
   unfolding sheetCodes

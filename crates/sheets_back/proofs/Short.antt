@@ -137,7 +137,10 @@ rows-short = (
                         record { name = omega arith; value = flag-short },
                         (
                           record { name = omega arith; value = flag-short },
-                          (record { name = omega arith; value = flag-short }, tt),
+                          (
+                            record { name = omega arith; value = flag-short },
+                            (record { name = omega arith; value = hex-short 32 (omega arith) }, tt),
+                          ),
                         ),
                       ),
                     ),

@@ -52,6 +52,7 @@ values c =
     ∷ curveName (c .face .front .fixed .curve)
     ∷ decimalOf (c .face .front .fixed .max)
     ∷ flagValues (c .face .front .flags)
+    ++ (hexOf (c .face .front .fixed .seed) ∷ [])
 
 -- THE SHEET of a card
 unfoldable pub sheetText : Card → List ℕ
@@ -65,6 +66,8 @@ pub record FixedInRange (x : Fixed) : Type 0 where
   pub cvc-digits : isDigits (x .cvc) ≡ true
   pub curve : (1 ≤ x .curve) × (x .curve ≤ 2)
   pub max : (1 ≤ x .max) × (x .max ≤ 4294967295)
+  pub seed : length (x .seed) ≡ 16
+  pub seed-bytes : Bytes (x .seed)
 
 pub record CodesInRange (x : Codes) : Type 0 where
   pub pin1 : length (x .pin1) ≡ 32

@@ -12,9 +12,10 @@ use Rattle.card.specs.declared.Flags.{Flags}
 use Rattle.card.specs.Values.{afterPurge}
 use Rattle.manual.specs.Words.{swProcessCompleted}
 use Rattle.manual.specs.declared.Command.{Command}
-use Rattle.manual.specs.declared.Command.the-variants.{CreateWallet, CheckWallet, SetPin, Sign, PurgeWallet}
+use Rattle.manual.specs.declared.Command.the-variants.{CreateWallet, CheckWallet, SetPin, Sign, PurgeWallet, ActivateCard}
 use Rattle.manual.specs.Request.{code}
 use Rattle.manual.specs.Wallet.{isNew, count, newCodes}
+use Rattle.manual.specs.Activation.{activatedCodes}
 use Rattle.manual.specs.Settle.{sentIn}
 
 -- what the personalisation sheet says
@@ -63,9 +64,10 @@ did k t = accepted (t .response) && eqb (ins (t .request)) (code k)
 abbrev pub signedNew : Tap → Bool
 signedNew t = did Sign t && isNew (sentIn (t .request))
 
--- whether the card is activated: by the sheet
+-- whether the card is activated: by the sheet, or by an accepted ACTIVATE_CARD (02 Ask 1), and then for good
 abbrev pub active : Sheet → History → ℕ
-active sh h = sh .flags .active
+active sh [] = sh .flags .active
+active sh (t ∷ h) = cond (did ActivateCard t) 1 (active sh h)
 
 -- wallets made
 abbrev pub wallets : History → ℕ
@@ -99,10 +101,13 @@ abbrev pub total : History → ℕ
 total [] = 0
 total (t ∷ h) = cond (signedNew t) (total h + count (sentIn (t .request))) (total h)
 
--- the codes in force: the sheet's, then those of each accepted SET_PIN, from the next command on
+-- the codes in force: the sheet's, then those of each accepted SET_PIN, and the default PIN1 where an accepted ACTIVATE_CARD reset it, from the next
+-- command on
 abbrev pub codes : Sheet → History → Codes
 codes sh [] = sh .codes
-codes sh (t ∷ h) = cond (did SetPin t) (newCodes (sentIn (t .request))) (codes sh h)
+codes sh (t ∷ h) =
+    cond (did SetPin t) (newCodes (sentIn (t .request)))
+    (cond (did ActivateCard t) (activatedCodes (sentIn (t .request)) (codes sh h)) (codes sh h))
 
 -- commands that make a wallet or a wallet signature
 abbrev pub usesWallet : ℕ → Bool

@@ -20,7 +20,7 @@ ghost use Rattle.card.specs.Image.{decode};
 ghost use Rattle.manual.specs.Words.{swProcessCompleted};
 ghost use Rattle.manual.specs.Tags.{CID, CurveID, CardSignature, WalletPublicKey, Signature};
 ghost use Rattle.manual.specs.Commands.{row};
-ghost use Rattle.manual.specs.Wallet.{createWallet, setPin, sign, purgeWallet, readFields, activeFields, walletFields, curveName};
+ghost use Rattle.manual.specs.Wallet.{createWallet, setPin, sign, purgeWallet, readFields, activeFields, asleepFields, walletFields, curveName};
 ghost use Rattle.manual.specs.Checking.{checkedFields, keyFields, verifyCard, validateCard};
 ghost use Rattle.manual.specs.Storage.{heldField, readUserData, noteFields, readIssuerData};
 ghost use Rattle.manual.specs.Settle.{matched, fieldsOf};
@@ -64,7 +64,7 @@ fn tell_own(
         (now (out .exit)) r ⌝ }
 {
     match cmd {
-        Command::ReadCard => tell_read(img, out, at),
+        Command::ReadCard | Command::ActivateCard => tell_read(img, out, at),
         Command::CreateWallet => tell_created(img, out, at),
         Command::CheckWallet => tell_checked(img, p, places, draw, answers, out, at),
         Command::SetPin => at,
@@ -102,6 +102,7 @@ fn more(cmd: Command, img: &[u8], p: &[u8], places: &Places) -> u16
         Command::WriteUserData => 0,
         Command::WriteIssuerData => 0,
         Command::ReadIssuerData => 0,
+        Command::ActivateCard => 0,
     }
 }
 
@@ -150,7 +151,7 @@ fn put_curve(curve: u8, out: &mut [u8], at: usize) -> usize
     fields::put_field(out, at, tag::CURVE_ID, &name)
 }
 
-// F2.
+// F2, and FE of the card after.
 fn tell_read(img: &[u8], out: &mut [u8], at: usize) -> usize
     ensures { λ r. ⌜ Wrotes (now (out .entry)) at (each (readFields (decode (now (img .entry)) .face))) (now (out .exit)) r ⌝ }
 {
@@ -160,7 +161,15 @@ fn tell_read(img: &[u8], out: &mut [u8], at: usize) -> usize
     if flags.active == 1 {
         return tell_active(img, out, a);
     }
-    fields::put_byte(out, a, tag::IS_ACTIVATED, 0)
+    tell_asleep(img, out, a)
+}
+
+// Not activated: the seed that the issuer is to confirm.
+fn tell_asleep(img: &[u8], out: &mut [u8], at: usize) -> usize
+    ensures { λ r. ⌜ Wrotes (now (out .entry)) at (each (asleepFields (decode (now (img .entry)) .face))) (now (out .exit)) r ⌝ }
+{
+    let a = fields::put_byte(out, at, tag::IS_ACTIVATED, 0);
+    fields::put_field(out, a, tag::ACTIVATION_SEED, image::seed(img))
 }
 
 fn tell_active(img: &[u8], out: &mut [u8], at: usize) -> usize

@@ -6,6 +6,7 @@ use Rattle.wire.specs.OneOutcome.{OneOutcome, OneSeen, plain}
 use Rattle.wire.proofs.Unique.{one-equal, one-write}
 use Rattle.wire.proofs.give3 as give3
 use Rattle.wire.proofs.give8 as give8
+use Rattle.wire.proofs.give16 as give16
 use Rattle.wire.proofs.give32 as give32
 use Rattle.wire.proofs.give64 as give64
 use Rattle.wire.proofs.give65 as give65
@@ -36,6 +37,9 @@ give3-one M 𝓤 H A m r κs a g z z′ ws ws′ = plain 𝓤 (λ p q. let e = o
 
 pub give8-one : OneOutcome give8.ended (λ M. give8.clauses {M = M})
 give8-one M 𝓤 H A m r κs a g z z′ ws ws′ = plain 𝓤 (λ p q. let e = one-write (p .0) (q .0) in (e .1, λ i. (e .0 i, (tt, (tt, tt)))))
+
+pub give16-one : OneOutcome give16.ended (λ M. give16.clauses {M = M})
+give16-one M 𝓤 H A m r κs a g z z′ ws ws′ = plain 𝓤 (λ p q. let e = one-write (p .0) (q .0) in (e .1, λ i. (e .0 i, (tt, (tt, tt)))))
 
 pub give32-one : OneOutcome give32.ended (λ M. give32.clauses {M = M})
 give32-one M 𝓤 H A m r κs a g z z′ ws ws′ = plain 𝓤 (λ p q. let e = one-write (p .0) (q .0) in (e .1, λ i. (e .0 i, (tt, (tt, tt)))))

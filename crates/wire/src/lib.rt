@@ -288,6 +288,12 @@ pub fn give8(out: &mut [u8], at: usize, a: [u8; 8]) -> usize
     put_bytes(out, at, &a)
 }
 
+pub fn give16(out: &mut [u8], at: usize, a: [u8; 16]) -> usize
+    ensures { λ r. ⌜ (Wrote (now (out .entry)) at a (now (out .exit)) r) × (length a ≡ 16) ⌝ }
+{
+    put_bytes(out, at, &a)
+}
+
 pub fn give32(out: &mut [u8], at: usize, a: [u8; 32]) -> usize
     ensures { λ r. ⌜ (Wrote (now (out .entry)) at a (now (out .exit)) r) × (length a ≡ 32) ⌝ }
 {

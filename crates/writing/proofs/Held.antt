@@ -27,7 +27,7 @@ use Rattle.card.proofs.Front as front
 use Rattle.card.proofs.Held as held
 use Rattle.card.proofs.Face as face
 use Rattle.card.proofs.Card as card
-use Rattle.card.specs.Layout.{pinSize, cidSize, cvcSize, keyRoom, dataRoom, signatureSize, lastRoom}
+use Rattle.card.specs.Layout.{pinSize, cidSize, cvcSize, seedSize, keyRoom, dataRoom, signatureSize, lastRoom}
 use Rattle.card.specs.Shape.{ShapeCodes, ShapeFixed, ShapeIssuer, ShapeFront, ShapeHeld, ShapeFace, Shape}
 
 codes-held : (x : Codes) (vs : List Val) → Is (row codes.the-type) x vs → ShapeCodes x
@@ -38,7 +38,11 @@ codes-held x vs g =
 fixed-held : (x : Fixed) (vs : List Val) → Is (row fixed.the-type) x vs → ShapeFixed x
 fixed-held x vs g =
     let f = g .1 .1 in
-    record { cid = length-unmapped ℕ (x .cid) cidSize (f .0 .1 .0 .1); cvc = length-unmapped ℕ (x .cvc) cvcSize (f .1 .0 .1 .0 .1) }
+    record {
+      cid = length-unmapped ℕ (x .cid) cidSize (f .0 .1 .0 .1);
+      cvc = length-unmapped ℕ (x .cvc) cvcSize (f .1 .0 .1 .0 .1);
+      seed = length-unmapped ℕ (x .seed) seedSize (f .1 .1 .1 .1 .0 .1 .0 .1);
+    }
 
 key-held : (x : Key) (vs : List Val) → Is (row key.the-type) x vs → length (x .bytes) ≡ keyRoom
 key-held x vs g = length-unmapped ℕ (x .bytes) keyRoom (g .1 .1 .1 .0 .1 .0 .1)

@@ -4,6 +4,7 @@ use Rattle.wire.proofs.Unique.{one-write}
 use Rattle.writing.proofs.write as write
 use Rattle.writing.proofs.anew.issuer as anew-issuer
 use Rattle.writing.proofs.anew.codes as anew-codes
+use Rattle.writing.proofs.anew.flags as anew-flags
 use Rattle.writing.proofs.anew.wallet as anew-wallet
 use Rattle.writing.proofs.anew.key as anew-key
 use Rattle.writing.proofs.anew.counters as anew-counters
@@ -19,6 +20,9 @@ anew-issuer-one M 𝓤 H A m r κs a g z z′ ws ws′ = plain 𝓤 (λ p q. let
 
 pub anew-codes-one : OneOutcome anew-codes.ended (λ M. anew-codes.clauses {M = M})
 anew-codes-one M 𝓤 H A m r κs a g z z′ ws ws′ = plain 𝓤 (λ p q. let e = one-write p q in (e .1, λ i. (e .0 i, (tt, (tt, tt)))))
+
+pub anew-flags-one : OneOutcome anew-flags.ended (λ M. anew-flags.clauses {M = M})
+anew-flags-one M 𝓤 H A m r κs a g z z′ ws ws′ = plain 𝓤 (λ p q. let e = one-write p q in (e .1, λ i. (e .0 i, (tt, tt))))
 
 pub anew-wallet-one : OneOutcome anew-wallet.ended (λ M. anew-wallet.clauses {M = M})
 anew-wallet-one M 𝓤 H A m r κs a g z z′ ws ws′ = plain 𝓤 (λ p q. let e = one-write p q in (e .1, λ i. (e .0 i, (tt, tt))))

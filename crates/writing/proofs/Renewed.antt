@@ -9,22 +9,24 @@ use lib.Seq.{take-at, drop-at, drop-cons}
 use lib.Dec.{lit<}
 use Rattle.wire.specs.Wire.{put, pad, Wrote, joined}
 use Rattle.wire.proofs.Laws.{runs, joined-append}
+use Rattle.card.specs.declared.Flags.{Flags}
 use Rattle.card.specs.declared.Wallet.{Wallet}
 use Rattle.card.specs.declared.Counters.{Counters}
 use Rattle.card.specs.declared.Front.{Front}
 use Rattle.card.specs.declared.Held.{Held}
 use Rattle.card.specs.declared.Face.{Face}
 use Rattle.card.specs.declared.Card.{Card}
-use Rattle.card.specs.Layout.{pinSize, codesAt, walletAt, keyAt, countersAt, userAt, protectedAt, issuerAt, lastAt}
+use Rattle.card.specs.Layout.{pinSize, codesAt, flagsAt, walletAt, keyAt, countersAt, userAt, protectedAt, issuerAt, lastAt}
 use Rattle.card.specs.Layout.{codesWidth, fixedWidth, flagsWidth, walletWidth, keyWidth, countersWidth, blockWidth, issuerWidth, lastWidth}
-use Rattle.card.specs.Values.{heldKey, heldBlock, heldIssuer, heldLast, faced, withWallet, withKey, withCounters, withUser, withProtected, withIssuer, withLast}
+use Rattle.card.specs.Values.{heldKey, heldBlock, heldIssuer, heldLast, faced}
+use Rattle.card.specs.Values.{withFlags, withWallet, withKey, withCounters, withUser, withProtected, withIssuer, withLast}
 use Rattle.card.specs.Image.{encCodes, encFixed, encFlags, encWallet, encKey, encCounters, encBlock, encIssuer, encLast, encFront, encHeld, encFace, encode}
 use Rattle.card.specs.Shape.{ShapeFace, Shape}
 use Rattle.writing.specs.Holds.{Holds}
 use Rattle.cards.proofs.Shape.{long-codes, long-fixed, long-flags, long-wallet, long-key, long-counters, long-block, long-issuer, long-last}
 use Rattle.cards.proofs.Shape.{held-codes-long, held-key-long, held-block-long, held-issuer-long, held-last-long}
 use Rattle.cards.proofs.Shape.{held-codes-wide, held-key-wide, held-block-wide, held-issuer-wide, held-last-wide}
-use Rattle.cards.proofs.Shape.{shape-with-wallet, shape-with-key, shape-with-counters, shape-with-user, shape-with-protected}
+use Rattle.cards.proofs.Shape.{shape-with-flags, shape-with-wallet, shape-with-key, shape-with-counters, shape-with-user, shape-with-protected}
 use Rattle.cards.proofs.Shape.{shape-with-issuer, shape-with-last}
 
 -- A SPLICE: a write over bytes of the same length changes them alone
@@ -137,6 +139,9 @@ module _ {c : Card} {rest d d′ : List ℕ} {r : ℕ} where
       (a b : List ℕ) → Wrote d codesAt (encCodes (record { pin1 = pad pinSize a; pin2 = pad pinSize b })) d′ r → Holds c rest d
       → Holds (record { face = c .face; codes = record { pin1 = pad pinSize a; pin2 = pad pinSize b } }) rest d′
   anew-codes a b w x = turned 0 (lit< tt) _ (record { codes = held-codes-long a b; face = x .shape .face }) refl (held-codes-wide a b) w x
+
+  pub anew-flags : (y : Flags) → Wrote d flagsAt (encFlags y) d′ r → Holds c rest d → Holds (faced (withFlags y (c .face)) c) rest d′
+  anew-flags y w x = refaced 2 (lit< tt) _ (shape-with-flags (c .face) (x .shape .face) y) refl (long-flags y) w x
 
   pub anew-wallet : (y : Wallet) → Wrote d walletAt (encWallet y) d′ r → Holds c rest d → Holds (faced (withWallet y (c .face)) c) rest d′
   anew-wallet y w x = refaced 3 (lit< tt) _ (shape-with-wallet (c .face) (x .shape .face) y) refl (long-wallet y) w x

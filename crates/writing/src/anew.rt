@@ -2,15 +2,16 @@
 use card::Block;
 use card::Codes;
 use card::Counters;
+use card::Flags;
 use card::Key;
 use card::Last;
 use card::Wallet;
 use card::layout;
 ghost use mathlib.Core.List.{_++_};
 ghost use Rattle.wire.specs.Wire.{be1, pad, Runs, Wrote};
-ghost use Rattle.card.specs.Layout.{pinSize, codesAt, walletAt, keyAt, countersAt, userAt, protectedAt, issuerAt, lastAt};
+ghost use Rattle.card.specs.Layout.{pinSize, codesAt, flagsAt, walletAt, keyAt, countersAt, userAt, protectedAt, issuerAt, lastAt};
 ghost use Rattle.card.specs.Values.{heldKey, heldBlock, heldIssuer, heldLast};
-ghost use Rattle.card.specs.Image.{encCodes, encWallet, encKey, encCounters, encBlock, encIssuer, encLast};
+ghost use Rattle.card.specs.Image.{encCodes, encFlags, encWallet, encKey, encCounters, encBlock, encIssuer, encLast};
 
 pub fn codes(img: &mut [u8], pin1: &[u8], pin2: &[u8]) -> usize
     ensures { λ r.
@@ -23,6 +24,15 @@ pub fn codes(img: &mut [u8], pin1: &[u8], pin2: &[u8]) -> usize
         return wire::put_padded(img, a, Codes::PIN_SIZE, pin2);
     }
     layout::CODES_AT
+}
+
+pub fn flags(img: &mut [u8], x: Flags) -> usize
+    ensures { λ r. ⌜ Wrote (now (img .entry)) flagsAt (encFlags x) (now (img .exit)) r ⌝ }
+{
+    if wire::has_room(img.len(), layout::FLAGS_AT, layout::FLAGS_WIDTH) {
+        return crate::whole::write_flags(x, img, layout::FLAGS_AT);
+    }
+    layout::FLAGS_AT
 }
 
 pub fn wallet(img: &mut [u8], x: Wallet) -> usize

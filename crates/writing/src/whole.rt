@@ -35,10 +35,12 @@ fn write_fixed(x: Fixed, out: &mut [u8], at: usize) -> usize
     let cvc = x.cvc;
     let b = wire::give3(out, a, cvc);
     let c = wire::put8(out, b, x.curve);
-    wire::put32(out, c, x.max)
+    let d = wire::put32(out, c, x.max);
+    let seed = x.seed;
+    wire::give16(out, d, seed)
 }
 
-fn write_flags(x: Flags, out: &mut [u8], at: usize) -> usize
+pub fn write_flags(x: Flags, out: &mut [u8], at: usize) -> usize
     ensures { λ r. ⌜ (Runs (now (out .entry)) at (encFlags x) (now (out .exit)) r) × (length (encFlags x) ≡ flagsWidth) ⌝ }
 {
     let bytes = [

@@ -1,5 +1,7 @@
+use mathlib.Core.List.{[]}
 use denote.Ref.{now}
 use Rattle.card.specs.Image.{decode}
+use Rattle.manual.specs.Row.{shaped}
 use borrow.Author.Needs.{needs}
 use Rattle.answers.proofs.fits.Statement.{statement}
 use Rattle.answers.proofs.fits.Tie as tie
@@ -79,6 +81,12 @@ enum-told-12 c = search needs
 no-answer-requires-6 : tie.Need-no-answer-requires-6
 no-answer-requires-6 c κs = tt
 
+enum-told-13 : tie.Need-enum-told-13
+enum-told-13 c = search needs
+
+yes-or-no-requires-2 : tie.Need-yes-or-no-requires-2
+yes-or-no-requires-2 c κs = tt
+
 returns : tie.Need-returns
 returns c = λ d. rw (c .before .enum-told .given .1) (c .no-answer .ensures)
 
@@ -122,6 +130,10 @@ returns-11 c = λ d. rw (c .before .enum-told11 .given .1) (c .yes-or-no .ensure
 returns-12 : tie.Need-returns-12
 returns-12 c = λ d. rw (c .before .enum-told12 .given .1) (c .no-answer6 .ensures)
 
+returns-13 : tie.Need-returns-13
+unfolding shaped
+returns-13 c = λ d. rw (c .before .enum-told13 .given .1) (c .yes-or-no2 .ensures 0 0 [])
+
 pub fits-spec : {M : Type 1} → statement M
 fits-spec =
     tie.close
@@ -151,6 +163,8 @@ fits-spec =
     yes-or-no-requires
     enum-told-12
     no-answer-requires-6
+    enum-told-13
+    yes-or-no-requires-2
     returns
     returns-2
     returns-3
@@ -162,4 +176,5 @@ fits-spec =
     returns-9
     returns-10
     returns-11
-    returns-12)
+    returns-12
+    returns-13)

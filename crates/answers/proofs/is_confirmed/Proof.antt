@@ -41,6 +41,12 @@ get8-requires c κs = tt
 enum-told-12 : tie.Need-enum-told-12
 enum-told-12 c = search needs
 
+enum-told-13 : tie.Need-enum-told-13
+enum-told-13 c = search needs
+
+get8-requires-2 : tie.Need-get8-requires-2
+get8-requires-2 c κs = tt
+
 returns : tie.Need-returns
 returns c = search needs
 
@@ -77,6 +83,9 @@ returns-11 c = rw (c .before .enum-told11 .given .1, c .get8 .ensures)
 returns-12 : tie.Need-returns-12
 returns-12 c = search needs
 
+returns-13 : tie.Need-returns-13
+returns-13 c = rw (c .before .enum-told13 .given .1, c .get82 .ensures)
+
 pub is-confirmed-spec : {M : Type 1} → statement M
 is-confirmed-spec =
     tie.close
@@ -94,6 +103,8 @@ is-confirmed-spec =
     enum-told-11
     get8-requires
     enum-told-12
+    enum-told-13
+    get8-requires-2
     returns
     returns-2
     returns-3
@@ -105,4 +116,5 @@ is-confirmed-spec =
     returns-9
     returns-10
     returns-11
-    returns-12)
+    returns-12
+    returns-13)

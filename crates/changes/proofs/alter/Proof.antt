@@ -62,6 +62,12 @@ noted-requires c κs = tt
 enum-told-12 : tie.Need-enum-told-12
 enum-told-12 c = search needs
 
+enum-told-13 : tie.Need-enum-told-13
+enum-told-13 c = search needs
+
+activated-requires : tie.Need-activated-requires
+activated-requires c κs = tt
+
 returns : tie.Need-returns
 returns c = rw (c .enum-told .given .1) (λ rest h. h)
 
@@ -122,6 +128,12 @@ returns-11 c = rw (c .before .before .before .before .enum-told11 .given .1) (c 
 returns-12 : tie.Need-returns-12
 returns-12 c = rw (c .enum-told12 .given .1) (λ rest h. h)
 
+same-length-9 : tie.Need-same-length-9
+same-length-9 c = search needs
+
+returns-13 : tie.Need-returns-13
+returns-13 c = rw (c .before .before .before .before .enum-told13 .given .1) (c .before .before .activated .ensures)
+
 pub alter-spec : {M : Type 1} → statement M
 alter-spec =
     tie.close
@@ -146,6 +158,8 @@ alter-spec =
     enum-told-11
     noted-requires
     enum-told-12
+    enum-told-13
+    activated-requires
     returns
     same-length
     returns-2
@@ -165,4 +179,6 @@ alter-spec =
     returns-10
     same-length-8
     returns-11
-    returns-12)
+    returns-12
+    same-length-9
+    returns-13)

@@ -56,6 +56,12 @@ issuer-conditions-requires c κs = tt
 enum-told-12 : tie.Need-enum-told-12
 enum-told-12 c = search needs
 
+enum-told-13 : tie.Need-enum-told-13
+enum-told-13 c = search needs
+
+may-activate-requires : tie.Need-may-activate-requires
+may-activate-requires c κs = tt
+
 returns : tie.Need-returns
 returns c = rw (c .enum-told .given .1)
 
@@ -92,6 +98,9 @@ returns-11 c = rw (c .before .enum-told11 .given .1) (c .issuer-conditions .ensu
 returns-12 : tie.Need-returns-12
 returns-12 c = rw (c .enum-told12 .given .1)
 
+returns-13 : tie.Need-returns-13
+returns-13 c = rw (c .before .enum-told13 .given .1) (c .may-activate .ensures)
+
 pub conditions-ok-spec : {M : Type 1} → statement M
 conditions-ok-spec =
     tie.close
@@ -114,6 +123,8 @@ conditions-ok-spec =
     enum-told-11
     issuer-conditions-requires
     enum-told-12
+    enum-told-13
+    may-activate-requires
     returns
     returns-2
     returns-3
@@ -125,4 +136,5 @@ conditions-ok-spec =
     returns-9
     returns-10
     returns-11
-    returns-12)
+    returns-12
+    returns-13)

@@ -59,6 +59,12 @@ enum-told-12 c = search needs
 mode-ok-requires : tie.Need-mode-ok-requires
 mode-ok-requires c κs = tt
 
+enum-told-13 : tie.Need-enum-told-13
+enum-told-13 c = search needs
+
+activation-fields-requires : tie.Need-activation-fields-requires
+activation-fields-requires c κs = tt
+
 returns : tie.Need-returns
 returns c = rw (c .enum-told .given .1)
 
@@ -95,6 +101,9 @@ returns-11 c = rw (c .before .enum-told11 .given .1) (c .issuer-fields .ensures)
 returns-12 : tie.Need-returns-12
 returns-12 c = rw (c .before .enum-told12 .given .1) (c .mode-ok .ensures)
 
+returns-13 : tie.Need-returns-13
+returns-13 c = rw (c .before .enum-told13 .given .1) (c .activation-fields .ensures)
+
 pub fields-ok-spec : {M : Type 1} → statement M
 fields-ok-spec =
     tie.close
@@ -118,6 +127,8 @@ fields-ok-spec =
     issuer-fields-requires
     enum-told-12
     mode-ok-requires
+    enum-told-13
+    activation-fields-requires
     returns
     returns-2
     returns-3
@@ -129,4 +140,5 @@ fields-ok-spec =
     returns-9
     returns-10
     returns-11
-    returns-12)
+    returns-12
+    returns-13)

@@ -86,6 +86,12 @@ enum-told-12 c = search needs
 always-requires-2 : tie.Need-always-requires-2
 always-requires-2 c κs = tt
 
+enum-told-13 : tie.Need-enum-told-13
+enum-told-13 c = search needs
+
+always-requires-3 : tie.Need-always-requires-3
+always-requires-3 c κs = tt
+
 returns : tie.Need-returns
 returns c = rw (c .before .before .enum-told .given .1) (rw (c .before .always .ensures) at (c .without-cid .ensures))
 
@@ -122,6 +128,9 @@ returns-11 c = rw (c .before .enum-told11 .given .1) (c .when-not-purged4 .ensur
 returns-12 : tie.Need-returns-12
 returns-12 c = rw (c .before .enum-told12 .given .1) (c .always2 .ensures)
 
+returns-13 : tie.Need-returns-13
+returns-13 c = rw (c .before .enum-told13 .given .1) (c .always3 .ensures)
+
 pub needs-spec : {M : Type 1} → statement M
 needs-spec =
     tie.close
@@ -154,6 +163,8 @@ needs-spec =
     when-not-purged-requires-4
     enum-told-12
     always-requires-2
+    enum-told-13
+    always-requires-3
     returns
     returns-2
     returns-3
@@ -165,4 +176,5 @@ needs-spec =
     returns-9
     returns-10
     returns-11
-    returns-12)
+    returns-12
+    returns-13)

@@ -47,6 +47,9 @@ enum-told-11 c = search needs
 enum-told-12 : tie.Need-enum-told-12
 enum-told-12 c = search needs
 
+enum-told-13 : tie.Need-enum-told-13
+enum-told-13 c = search needs
+
 returns : tie.Need-returns
 returns c = rw (c .enum-told .given .1)
 
@@ -84,6 +87,9 @@ returns-11 c = rw (c .enum-told11 .given .1)
 returns-12 : tie.Need-returns-12
 returns-12 c = rw (c .enum-told12 .given .1)
 
+returns-13 : tie.Need-returns-13
+returns-13 c = rw (c .enum-told13 .given .1)
+
 pub needs-pin2-spec : {M : Type 1} → statement M
 needs-pin2-spec =
     tie.close
@@ -103,6 +109,7 @@ needs-pin2-spec =
     either-requires
     enum-told-11
     enum-told-12
+    enum-told-13
     returns
     returns-2
     returns-3
@@ -114,4 +121,5 @@ needs-pin2-spec =
     returns-9
     returns-10
     returns-11
-    returns-12)
+    returns-12
+    returns-13)

@@ -26,6 +26,12 @@ value-of-requires-4 c κs = tt
 max-of-requires : tie.Need-max-of-requires
 max-of-requires c κs = tt
 
+value-of-requires-5 : tie.Need-value-of-requires-5
+value-of-requires-5 c κs = tt
+
+hex16-requires : tie.Need-hex16-requires
+hex16-requires c κs = tt
+
 returns : tie.Need-returns
 unfolding sheetFixed
 returns c = cc
@@ -42,4 +48,6 @@ fixed-of-spec =
     curve-of-requires
     value-of-requires-4
     max-of-requires
+    value-of-requires-5
+    hex16-requires
     returns)

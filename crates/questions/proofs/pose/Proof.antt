@@ -60,6 +60,12 @@ pose-issuer-requires c κs = tt
 enum-told-12 : tie.Need-enum-told-12
 enum-told-12 c = search needs
 
+enum-told-13 : tie.Need-enum-told-13
+enum-told-13 c = search needs
+
+pose-activation-requires : tie.Need-pose-activation-requires
+pose-activation-requires c κs = tt
+
 returns : tie.Need-returns
 unfolding eachAsked
 returns c = rw (c .enum-told .given .1) wrote-none
@@ -120,6 +126,12 @@ returns-12 : tie.Need-returns-12
 unfolding eachAsked
 returns-12 c = rw (c .enum-told12 .given .1) wrote-none
 
+same-length-7 : tie.Need-same-length-7
+same-length-7 c = search needs
+
+returns-13 : tie.Need-returns-13
+returns-13 c = rw (c .before .before .before .before .enum-told13 .given .1) (c .before .before .pose-activation .ensures [])
+
 pub pose-spec : {M : Type 1} → statement M
 pose-spec =
     tie.close
@@ -142,6 +154,8 @@ pose-spec =
     enum-told-11
     pose-issuer-requires
     enum-told-12
+    enum-told-13
+    pose-activation-requires
     returns
     same-length
     returns-2
@@ -159,4 +173,6 @@ pose-spec =
     returns-10
     same-length-6
     returns-11
-    returns-12)
+    returns-12
+    same-length-7
+    returns-13)

@@ -95,6 +95,12 @@ slice-aggregate-all-single-7 c = search needs
 all-single-requires-7 : tie.Need-all-single-requires-7
 all-single-requires-7 c κs = tt
 
+enum-told-13 : tie.Need-enum-told-13
+enum-told-13 c = search needs
+
+activate-card-requires : tie.Need-activate-card-requires
+activate-card-requires c κs = tt
+
 returns : tie.Need-returns
 returns c = rw (c .before .before .enum-told .given .1) (c .all-single .ensures)
 
@@ -131,6 +137,9 @@ returns-11 c = rw (c .before .enum-told11 .given .1) (c .write-issuer-data .ensu
 returns-12 : tie.Need-returns-12
 returns-12 c = rw (c .before .before .enum-told12 .given .1) (c .all-single7 .ensures)
 
+returns-13 : tie.Need-returns-13
+returns-13 c = rw (c .before .enum-told13 .given .1) (c .activate-card .ensures)
+
 pub listed-spec : {M : Type 1} → statement M
 listed-spec =
     tie.close
@@ -166,6 +175,8 @@ listed-spec =
     enum-told-12
     slice-aggregate-all-single-7
     all-single-requires-7
+    enum-told-13
+    activate-card-requires
     returns
     returns-2
     returns-3
@@ -177,4 +188,5 @@ listed-spec =
     returns-9
     returns-10
     returns-11
-    returns-12)
+    returns-12
+    returns-13)

@@ -41,10 +41,14 @@ returns-12 : tie.Need-returns-12
 returns-12 c = listed-at (c .match .keys12)
 
 returns-13 : tie.Need-returns-13
+returns-13 c = listed-at (c .match .keys13)
+
+returns-14 : tie.Need-returns-14
 unfolding insOf
-returns-13 c =
+returns-14 c =
     let r = c .match .rest in
     simp (
+      ne-eqb _ _ (r .0 .0 .0 .0 .0 .0 .0 .0 .0 .0 .0 .0 .1),
       ne-eqb _ _ (r .0 .0 .0 .0 .0 .0 .0 .0 .0 .0 .0 .1),
       ne-eqb _ _ (r .0 .0 .0 .0 .0 .0 .0 .0 .0 .0 .1),
       ne-eqb _ _ (r .0 .0 .0 .0 .0 .0 .0 .0 .0 .1),
@@ -61,4 +65,5 @@ returns-13 c =
 
 pub ins-of-spec : {M : Type 1} → statement M
 ins-of-spec =
-    tie.close (tie.spec returns returns-2 returns-3 returns-4 returns-5 returns-6 returns-7 returns-8 returns-9 returns-10 returns-11 returns-12 returns-13)
+    tie.close
+    (tie.spec returns returns-2 returns-3 returns-4 returns-5 returns-6 returns-7 returns-8 returns-9 returns-10 returns-11 returns-12 returns-13 returns-14)

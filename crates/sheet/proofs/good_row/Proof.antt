@@ -84,6 +84,12 @@ slice-aggregate-flag-row-7 c = search needs
 flag-row-requires-7 : tie.Need-flag-row-requires-7
 flag-row-requires-7 c κs = tt
 
+slice-aggregate-hex-row-4 : tie.Need-slice-aggregate-hex-row-4
+slice-aggregate-hex-row-4 c = search needs
+
+hex-row-requires-4 : tie.Need-hex-row-requires-4
+hex-row-requires-4 c κs = tt
+
 returns : tie.Need-returns
 returns c = on-line _ _ (c .before .before .match .keys1) (c .hex-row .ensures)
 
@@ -124,17 +130,20 @@ returns-13 : tie.Need-returns-13
 returns-13 c = on-line _ _ (c .before .before .match .keys13) (c .flag-row7 .ensures)
 
 returns-14 : tie.Need-returns-14
-returns-14 c =
+returns-14 c = on-line _ _ (c .before .before .match .keys14) (c .hex-row4 .ensures)
+
+returns-15 : tie.Need-returns-15
+returns-15 c =
     let r = c .match .rest in
     let x = c .before .before .before .args in
     sym
     (no-row (x .line) _ _
     (λ h k.
-    let a = past 2 (past 1 h (r .0 .0 .0 .0 .0 .0 .0 .0 .0 .0 .0 .0 .1)) (r .0 .0 .0 .0 .0 .0 .0 .0 .0 .0 .0 .1) in
-    let b = past 5 (past 4 (past 3 a (r .0 .0 .0 .0 .0 .0 .0 .0 .0 .0 .1)) (r .0 .0 .0 .0 .0 .0 .0 .0 .0 .1)) (r .0 .0 .0 .0 .0 .0 .0 .0 .1) in
-    let d = past 8 (past 7 (past 6 b (r .0 .0 .0 .0 .0 .0 .0 .1)) (r .0 .0 .0 .0 .0 .0 .1)) (r .0 .0 .0 .0 .0 .1) in
-    let e = past 11 (past 10 (past 9 d (r .0 .0 .0 .0 .1)) (r .0 .0 .0 .1)) (r .0 .0 .1) in
-    let z : 14 ≤ x .line = past 13 (past 12 e (r .0 .1)) (r .1) in
+    let a = past 2 (past 1 h (r .0 .0 .0 .0 .0 .0 .0 .0 .0 .0 .0 .0 .0 .1)) (r .0 .0 .0 .0 .0 .0 .0 .0 .0 .0 .0 .0 .1) in
+    let b = past 5 (past 4 (past 3 a (r .0 .0 .0 .0 .0 .0 .0 .0 .0 .0 .0 .1)) (r .0 .0 .0 .0 .0 .0 .0 .0 .0 .0 .1)) (r .0 .0 .0 .0 .0 .0 .0 .0 .0 .1) in
+    let d = past 8 (past 7 (past 6 b (r .0 .0 .0 .0 .0 .0 .0 .0 .1)) (r .0 .0 .0 .0 .0 .0 .0 .1)) (r .0 .0 .0 .0 .0 .0 .1) in
+    let e = past 11 (past 10 (past 9 d (r .0 .0 .0 .0 .0 .1)) (r .0 .0 .0 .0 .1)) (r .0 .0 .0 .1) in
+    let z : 15 ≤ x .line = past 14 (past 13 (past 12 e (r .0 .0 .1)) (r .0 .1)) (r .1) in
     omega arith))
 
 pub good-row-spec : {M : Type 1} → statement M
@@ -167,6 +176,8 @@ good-row-spec =
     flag-row-requires-6
     slice-aggregate-flag-row-7
     flag-row-requires-7
+    slice-aggregate-hex-row-4
+    hex-row-requires-4
     returns
     returns-2
     returns-3
@@ -180,4 +191,5 @@ good-row-spec =
     returns-11
     returns-12
     returns-13
-    returns-14)
+    returns-14
+    returns-15)

@@ -42,6 +42,9 @@ enum-told-11 c = search needs
 enum-told-12 : tie.Need-enum-told-12
 enum-told-12 c = search needs
 
+enum-told-13 : tie.Need-enum-told-13
+enum-told-13 c = search needs
+
 returns : tie.Need-returns
 returns c = (rw (c .enum-told .given .1), omega arith)
 
@@ -78,6 +81,9 @@ returns-11 c = (rw (c .enum-told11 .given .1), omega arith)
 returns-12 : tie.Need-returns-12
 returns-12 c = (rw (c .enum-told12 .given .1), omega arith)
 
+returns-13 : tie.Need-returns-13
+returns-13 c = (rw (c .enum-told13 .given .1), omega arith)
+
 pub more-spec : {M : Type 1} → statement M
 more-spec =
     tie.close
@@ -95,6 +101,7 @@ more-spec =
     enum-told-10
     enum-told-11
     enum-told-12
+    enum-told-13
     returns
     returns-2
     returns-3
@@ -106,4 +113,5 @@ more-spec =
     returns-9
     returns-10
     returns-11
-    returns-12)
+    returns-12
+    returns-13)

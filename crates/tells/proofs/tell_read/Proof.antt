@@ -1,5 +1,5 @@
 use Rattle.fields.specs.Fields.{each}
-use Rattle.wire.proofs.Laws.{wrote-more, wrote-one}
+use Rattle.wire.proofs.Laws.{wrote-more}
 use borrow.Author.Tests.{eq-eqb, ne-eqb}
 use borrow.Author.Needs.{needs}
 use Rattle.tells.proofs.tell_read.Statement.{statement}
@@ -28,8 +28,8 @@ returns c =
     let s = rw (p .before .before .wallet .ensures) at (p .put-byte .ensures) in
     rw (← i .before .before .flags .ensures) (rw (eq-eqb _ _ (i .if1 .taken)) (wrote-more s (c .before .before .tell-active .ensures)))
 
-put-byte-requires-2 : tie.Need-put-byte-requires-2
-put-byte-requires-2 c κs = tt
+tell-asleep-requires : tie.Need-tell-asleep-requires
+tell-asleep-requires c κs = tt
 
 same-length-2 : tie.Need-same-length-2
 same-length-2 c = search needs
@@ -40,7 +40,7 @@ returns-2 c =
     let i = c .before .before .before .before in
     let p = i .before .before .before .before .before in
     let s = rw (p .before .before .wallet .ensures) at (p .put-byte .ensures) in
-    rw (← i .before .before .flags .ensures) (rw (ne-eqb _ _ (i .if1 .left)) (wrote-more s (wrote-one (c .before .before .put-byte2 .ensures))))
+    rw (← i .before .before .flags .ensures) (rw (ne-eqb _ _ (i .if1 .left)) (wrote-more s (c .before .before .tell-asleep .ensures)))
 
 pub tell-read-spec : {M : Type 1} → statement M
 tell-read-spec =
@@ -52,6 +52,6 @@ tell-read-spec =
     tell-active-requires
     same-length
     returns
-    put-byte-requires-2
+    tell-asleep-requires
     same-length-2
     returns-2)
