@@ -17,6 +17,7 @@ pub mod Reasons
 pub mod Corollaries
 pub mod Events
 pub mod Handover
+pub mod Waking
 pub mod Notes
 pub mod Story
 pub mod Rejected

@@ -25,11 +25,11 @@ use Rattle.history.specs.Demands.{AnyCard, isRefusal, Asked, noneAsked, 
 use Rattle.history.specs.Demands.{tapsOf, left, Asks, nothing, due, allKinds, Poses, Demand3}
 use Rattle.history.specs.Wrong.{outside, judgedBy, asksBy, saysBy, honest}
 use Rattle.history.specs.Wrong.{refuser, yesSayer, forgetter, repeater, proud, oldCard, greedy, hasty, hoarder}
-use Rattle.history.specs.Wrong.{eager, riser, teller, forger, notary, babbler, stubborn, inventor, mute, firstTaker, heir}
+use Rattle.history.specs.Wrong.{eager, riser, teller, forger, notary, babbler, stubborn, inventor, mute, firstTaker, heir, credulous, resetter}
 use Rattle.history.proofs.Choice.{both-true, clash}
 use Rattle.history.proofs.Images.{model}
-use Rattle.history.proofs.Story.{run, sheet0, image0, fresh0, sheet1, image1, fresh1, codes1, request, call}
-use Rattle.history.proofs.Story.{ask0, reads, creates, hashes, signs, repeats, purges, verifies, notes}
+use Rattle.history.proofs.Story.{run, sheet0, image0, fresh0, sheet1, image1, fresh1, sheet2, image2, fresh2, codes1, request, call}
+use Rattle.history.proofs.Story.{ask0, reads, creates, hashes, signs, repeats, purges, verifies, notes, wakes}
 
 -- THE FRAME of the wrong cards is right: with the manual's rows it meets demand 2
 same-asks : (z : Verdict) (c : Card) (q d : List ℕ) → asksBy row z c q d ≡ questionsOf z (c .face) q d
@@ -241,4 +241,18 @@ pub heir-rejected-3 : Demand3 heir → ⊥
 unfolding run
 heir-rejected-3 h =
     let e : 1 ≤ 0 = h .next sheet0 image0 fresh0 (tapsOf (creates ∷ signs 1 5 ∷ purges ∷ creates ∷ [])) repeats .repeats refl refl .some in
+    absurd (omega arith)
+
+-- 21. activates though the issuer said no: the answer to an accepted activation is yes
+pub credulous-rejected : Demand3 credulous → ⊥
+unfolding run
+credulous-rejected h =
+    let e : _≡_ {A = ℕ} 0 1 = ap (λ a. getD a 0 0) (h .next sheet2 image2 fresh2 [] (wakes 0 0) .wakes refl .answers) in
+    absurd (omega arith)
+
+-- 22. resets PIN1 unasked: by the history the sheet's is in force
+pub resetter-rejected : Demand3 resetter → ⊥
+unfolding run
+resetter-rejected h =
+    let e : _≡_ {A = ℕ} 0x91 1 = ap (λ x. getD (x .pin1) 0 0) (h .kept sheet2 image2 fresh2 (tapsOf (wakes 0 1 ∷ [])) .inForce) in
     absurd (omega arith)

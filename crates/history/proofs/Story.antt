@@ -12,17 +12,18 @@ use Rattle.card.specs.Layout.{pinSize, cidSize, cvcSize, seedSize, signatureSiz
 use Rattle.card.specs.Image.{encode, encCodes, encFixed, encFlags, encWallet, encKey, encCounters, encBlock, encIssuer, encLast, encFront, encHeld, encFace}
 use Rattle.card.specs.Image.{decode}
 use Rattle.card.specs.Valid.{isCard, okFace, okFront, okHeld, okFlags, okRanges, okState, okKey, keySize, okBlock, okIssuer, okLast}
-use Rattle.card.specs.Values.{fresh, keyOf, blockOf, lastOf}
+use Rattle.card.specs.Values.{defaultPIN1, fresh, keyOf, blockOf, lastOf}
 use Rattle.manual.specs.Words.{questionsRoom, responseRoom, drawSize, hashSize}
-use Rattle.manual.specs.Tags.{CID, PIN1, PIN2, Challenge, IssuerData, IssuerDataSignature, IssuerDataCounter, TransactionHash, TransactionHashSize}
+use Rattle.manual.specs.Tags.{CID, PIN1, PIN2, Challenge, ActivationSignature, ResetPIN1}
+use Rattle.manual.specs.Tags.{IssuerData, IssuerDataSignature, IssuerDataCounter, TransactionHash, TransactionHashSize}
 use Rattle.manual.specs.declared.Command.{Command}
-use Rattle.manual.specs.declared.Command.the-variants.{ReadCard, CreateWallet, Sign, VerifyCard, PurgeWallet, WriteIssuerData}
+use Rattle.manual.specs.declared.Command.the-variants.{ReadCard, CreateWallet, Sign, VerifyCard, PurgeWallet, WriteIssuerData, ActivateCard}
 use Rattle.manual.specs.Request.{code, lcOf, insOf}
 use Rattle.manual.specs.Row.{plain, allowed, shaped, asked, eachAsked}
 use Rattle.manual.specs.Wallet.{curveName, hashQuestions}
 use Rattle.manual.specs.Checking.{saltSize}
 use Rattle.manual.specs.Settle.{State, holding, Call, sentIn, judgedBy, said, done, answered, lent, settledOf, settled, Settled, roomy, askedOf, askedFor}
-use Rattle.story.specs.Sums.{Sheet, History, accepted, made, total, wallets, status, everPurged}
+use Rattle.story.specs.Sums.{Sheet, History, accepted, active, codes, made, total, wallets, status, everPurged}
 use Rattle.history.specs.Demands.{AnyCard, given, tapsOf, left, played, Fresh}
 use Rattle.history.proofs.Images.{model}
 
@@ -34,37 +35,50 @@ unfolding settled settledOf lent said judgedBy sentIn viewOf answered done roomy
     encIssuer encLast decode isCard okFace okFront okHeld okFlags okRanges okState okKey keySize okBlock okIssuer okLast
 run f m i = f .taps .settle m i
 
--- THE SHEET: reusable, no CVC, PIN1 may not change, five signatures, replay protection
-abbrev pub sheet0 : Sheet
-sheet0 =
+-- THE SHEET, of a card that is reusable or not, activated or not: no CVC, PIN1 may not change, five signatures, replay protection
+abbrev sheetOf : ℕ → ℕ → Sheet
+sheetOf reusable active =
     record {
       fixed = record { cid = replicate cidSize 7; cvc = replicate cvcSize 48; curve = 1; max = 5; seed = replicate seedSize 2 };
-      flags = record { reusable = 1; usecvc = 0; setpin1 = 0; setpin2 = 1; nopurge = 0; replay = 1; active = 1 };
+      flags = record { reusable = reusable; usecvc = 0; setpin1 = 0; setpin2 = 1; nopurge = 0; replay = 1; active = active };
       codes = record { pin1 = replicate pinSize 1; pin2 = replicate pinSize 2 };
     }
 
+abbrev imageOf : Sheet → List ℕ
+imageOf sh = encode (fresh (sh .fixed) (sh .flags) (sh .codes))
+
+-- reusable and activated
+abbrev pub sheet0 : Sheet
+sheet0 = sheetOf 1 1
+
 abbrev pub image0 : List ℕ
-image0 = encode (fresh (sheet0 .fixed) (sheet0 .flags) (sheet0 .codes))
+image0 = imageOf sheet0
 
 pub fresh0 : Fresh sheet0 image0
 unfolding run
 fresh0 = record { card = refl; spells = refl }
 
--- the same sheet, of a card that is not reusable
+-- not reusable
 abbrev pub sheet1 : Sheet
-sheet1 =
-    record {
-      fixed = sheet0 .fixed;
-      flags = record { reusable = 0; usecvc = 0; setpin1 = 0; setpin2 = 1; nopurge = 0; replay = 1; active = 1 };
-      codes = sheet0 .codes;
-    }
+sheet1 = sheetOf 0 1
 
 abbrev pub image1 : List ℕ
-image1 = encode (fresh (sheet1 .fixed) (sheet1 .flags) (sheet1 .codes))
+image1 = imageOf sheet1
 
 pub fresh1 : Fresh sheet1 image1
 unfolding run
 fresh1 = record { card = refl; spells = refl }
+
+-- not activated, as a card goes by post
+abbrev pub sheet2 : Sheet
+sheet2 = sheetOf 1 0
+
+abbrev pub image2 : List ℕ
+image2 = imageOf sheet2
+
+pub fresh2 : Fresh sheet2 image2
+unfolding run
+fresh2 = record { card = refl; spells = refl }
 
 -- CALLS, under these codes or others
 abbrev pub codes1 : Codes
@@ -117,6 +131,10 @@ notes n =
     (fld IssuerData (replicate 3 8) ∷ fld IssuerDataSignature (replicate signatureSize 6) ∷ fld IssuerDataCounter (be4 n) ∷ [])
     (1 ∷ [])
 
+-- an activation with this Reset_PIN1, and the issuer's word on it
+abbrev pub wakes : ℕ → ℕ → Call
+wakes reset word = ask0 ActivateCard (fld ResetPIN1 (reset ∷ []) ∷ fld ActivationSignature (replicate signatureSize 3) ∷ []) (word ∷ [])
+
 -- A STORY: a wallet made, a READ_CARD with a stray answer (number 4), five hashes signed, the same again, a purge, a second wallet
 abbrev pub story : List Call
 story = creates ∷ ask0 ReadCard [] (1 ∷ []) ∷ signs 5 5 ∷ repeats ∷ purges ∷ creates ∷ []
@@ -144,3 +162,21 @@ pub examples :
     × (ended .face .front .wallet .signed ≡ 5)
 unfolding run
 examples = (refl, refl, refl, refl, refl, refl, refl, refl, refl, refl)
+
+-- ANOTHER: a card by post, asked for a wallet too early, its activation refused by the issuer, then confirmed with PIN1 reset; and the same with PIN1 kept
+abbrev posted : ℕ → List Call
+posted reset = creates ∷ wakes reset 0 ∷ wakes reset 1 ∷ []
+
+abbrev woken : ℕ → History
+woken reset = played model (holding image2) [] (tapsOf (posted reset))
+
+pub wakings :
+    (length (woken 1) ≡ 3)
+    × (active sheet2 (woken 1) ≡ 1)
+    × (wallets (woken 1) ≡ 0)
+    × (codes sheet2 (woken 1) .pin1 ≡ defaultPIN1)
+    × (codes sheet2 (woken 1) .pin2 ≡ sheet2 .codes .pin2)
+    × (codes sheet2 (woken 0) ≡ sheet2 .codes)
+    × (active sheet2 (played model (holding image2) [] (tapsOf (creates ∷ wakes 1 0 ∷ []))) ≡ 0)
+unfolding run
+wakings = (refl, refl, refl, refl, refl, refl, refl)

@@ -1,5 +1,5 @@
 -- What the further theorems speak of: a card unchanged, the first check to fail, a field that stands twice, what a SIGN costs, what a purge takes, the
--- SIGN that a repeat tells again, a note that is too old.
+-- SIGN that a repeat tells again, what an activation leaves, a note that is too old.
 -- Assumes nothing.
 use Prim.Native.Nat.{ℕ, _+_, _*_, _≤_, _<_}
 use mathlib.Core.Path.{_≡_}
@@ -23,6 +23,7 @@ use Rattle.manual.specs.Request.{code, command, payload}
 use Rattle.manual.specs.Row.{Matched, Question, shaped, Row, Rule, rules}
 use Rattle.manual.specs.Commands.{row}
 use Rattle.manual.specs.Storage.{guarded, sentCounter}
+use Rattle.manual.specs.Activation.{activatedFace, activatedCodes}
 use Rattle.manual.specs.Tags.{Signature}
 use Rattle.manual.specs.Settle.{State, holding, Call, sentIn, matched}
 use Rattle.story.specs.Sums.{Sheet, History, toldIn, isDone, accepted, ins, signedNew, wallets}
@@ -179,6 +180,10 @@ pub record Original (f : AnyCard) (sh : Sheet) (m : List ℕ) (past es : List Ev
   pub rightful :
       Rightful sh (historyOf f m (past ++ made .before)) (tapBy f (stateAfter f m (past ++ made .before)) (made .call)) (made .call)
       (questions (f .taps .ask (stateAfter f m (past ++ made .before)) (made .call)))
+
+-- the card that an accepted activation leaves: activated, with the default PIN1 where it was to be reset, and nothing else anew (02 Ask 1)
+abbrev pub wokenCard : View → Card → Card
+wokenCard v c = record { face = activatedFace (c .face); codes = activatedCodes v (c .codes) }
 
 -- a note: WRITE_ISSUER_DATA with this counter, or one below it
 pub record NoteUpTo (n : ℕ) (i : Call) : Type 0 where

@@ -7,16 +7,17 @@ use lib.ListN.{length, replicate}
 use lib.Dec.{leb, eqb}
 use Rattle.wire.specs.Wire.{be2}
 use Rattle.fields.specs.Fields.{View, val, wellFormed, Tagged}
+use Rattle.card.specs.declared.Codes.{Codes}
 use Rattle.card.specs.declared.Wallet.{Wallet}
 use Rattle.card.specs.declared.Face.{Face}
 use Rattle.card.specs.declared.Card.{Card}
 use Rattle.card.specs.Layout.{imageSize}
 use Rattle.card.specs.Image.{decode}
 use Rattle.card.specs.Valid.{every, okFront, okHeld, okLast, isCard}
-use Rattle.card.specs.Values.{u32, risen, heldKey, heldLast, withWallet, withKey, withCounters, withLast}
+use Rattle.card.specs.Values.{u32, resetPIN1, risen, heldKey, heldLast, withWallet, withKey, withCounters, withLast}
 use Rattle.manual.specs.Words.{swProcessCompleted, swInvalidStatus, questionsRoom, drawSize}
 use Rattle.manual.specs.declared.Command.{Command}
-use Rattle.manual.specs.declared.Command.the-variants.{ReadCard, SetPin, Sign, VerifyCard, PurgeWallet, WriteIssuerData}
+use Rattle.manual.specs.declared.Command.the-variants.{ReadCard, SetPin, Sign, VerifyCard, PurgeWallet, WriteIssuerData, ActivateCard}
 use Rattle.manual.specs.declared.Verdict.{Verdict}
 use Rattle.manual.specs.declared.Verdict.the-variants.{Pass, Stop}
 use Rattle.manual.specs.declared.Outcome.{Outcome}
@@ -26,6 +27,7 @@ use Rattle.manual.specs.Row.{Matched, Question, question, asked, Row, gateOf, r
 use Rattle.manual.specs.Wallet.{readCard, sign, purgeWallet, purgedFace, readFields, isNew, count, newCodes}
 use Rattle.manual.specs.Checking.{verifyCard, salt}
 use Rattle.manual.specs.Storage.{writeIssuerData}
+use Rattle.manual.specs.Activation.{activateCard}
 use Rattle.manual.specs.Commands.{row}
 use Rattle.manual.specs.Settle.{State, Call, Posed, Settled, sentIn, matched, wordOf, reasonOf, Said}
 use Rattle.manual.specs.Settle.{silent, refused, answered, untouched, outcome, posed, posedBy, settledBy, lent, roomy}
@@ -123,11 +125,11 @@ forgetter = outside (record { verdict = honest .verdict; asks = honest .asks; sa
 abbrev pub but : Command → Row → Command → Row
 but k r j = cond (eqb (code j) (code k)) r (row j)
 
--- a row, but for one column of five
+-- a row, but for one column of seven
 abbrev pub withColumns :
-    List ℕ → (Matched → Face → View → Bool) → (Face → View → List ℕ → List Question) → (Face → View → List ℕ → Face)
-    → (Face → View → List ℕ → List ℕ → List Tagged) → Row → Row
-withColumns reads conditions questions next fieldsOut r =
+    List ℕ → (Matched → Face → View → Bool) → (Face → View → List ℕ → List Question) → (List ℕ → Bool) → (Face → View → List ℕ → Face)
+    → (View → Codes → Codes) → (Face → View → List ℕ → List ℕ → List Tagged) → Row → Row
+withColumns reads conditions questions confirmed next recode fieldsOut r =
     record {
       reads = reads;
       needs = r .needs;
@@ -135,27 +137,33 @@ withColumns reads conditions questions next fieldsOut r =
       fields = r .fields;
       conditions = conditions;
       questions = questions;
-      confirmed = r .confirmed;
+      confirmed = confirmed;
       next = next;
-      recode = r .recode;
+      recode = recode;
       fieldsOut = fieldsOut;
       more = r .more;
     }
 
 abbrev pub withReads : List ℕ → Row → Row
-withReads ts r = withColumns ts (r .conditions) (r .questions) (r .next) (r .fieldsOut) r
+withReads ts r = withColumns ts (r .conditions) (r .questions) (r .confirmed) (r .next) (r .recode) (r .fieldsOut) r
 
 abbrev pub withConditions : (Matched → Face → View → Bool) → Row → Row
-withConditions g r = withColumns (r .reads) g (r .questions) (r .next) (r .fieldsOut) r
+withConditions g r = withColumns (r .reads) g (r .questions) (r .confirmed) (r .next) (r .recode) (r .fieldsOut) r
 
 abbrev pub withQuestions : (Face → View → List ℕ → List Question) → Row → Row
-withQuestions g r = withColumns (r .reads) (r .conditions) g (r .next) (r .fieldsOut) r
+withQuestions g r = withColumns (r .reads) (r .conditions) g (r .confirmed) (r .next) (r .recode) (r .fieldsOut) r
+
+abbrev pub withConfirmed : (List ℕ → Bool) → Row → Row
+withConfirmed g r = withColumns (r .reads) (r .conditions) (r .questions) g (r .next) (r .recode) (r .fieldsOut) r
 
 abbrev pub withNext : (Face → View → List ℕ → Face) → Row → Row
-withNext g r = withColumns (r .reads) (r .conditions) (r .questions) g (r .fieldsOut) r
+withNext g r = withColumns (r .reads) (r .conditions) (r .questions) (r .confirmed) g (r .recode) (r .fieldsOut) r
+
+abbrev pub withRecode : (View → Codes → Codes) → Row → Row
+withRecode g r = withColumns (r .reads) (r .conditions) (r .questions) (r .confirmed) (r .next) g (r .fieldsOut) r
 
 abbrev pub withFieldsOut : (Face → View → List ℕ → List ℕ → List Tagged) → Row → Row
-withFieldsOut g r = withColumns (r .reads) (r .conditions) (r .questions) (r .next) g r
+withFieldsOut g r = withColumns (r .reads) (r .conditions) (r .questions) (r .confirmed) (r .next) (r .recode) g r
 
 -- 4. HONOURS THE FIRST SIGN AND AFTERWARDS REPEATS ITS SIGNATURES (demands 2 and 3): it asks, and counts, and answers the old ones
 abbrev pub keptLast : Face → Face → Face
@@ -289,3 +297,11 @@ wasCard img =
 
 abbrev pub heir : AnyCard
 heir = outsideBy wasCard (byRows (but PurgeWallet (withNext (λ f v a. withLast (f .last) (purgedFace f)) purgeWallet)))
+
+-- 21. ACTIVATES THOUGH THE ISSUER SAID NO (demand 3)
+abbrev pub credulous : AnyCard
+credulous = outside (byRows (but ActivateCard (withConfirmed (λ a. true) activateCard)))
+
+-- 22. RESETS PIN1 UNASKED (demand 3): with Reset_PIN1 0 too
+abbrev pub resetter : AnyCard
+resetter = outside (byRows (but ActivateCard (withRecode (λ v x. resetPIN1 x) activateCard)))
