@@ -9,3 +9,4 @@ pub mod Activation
 pub mod Commands
 pub mod Settle
 pub mod Drill
+pub mod ByHand
