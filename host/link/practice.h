@@ -36,7 +36,7 @@ enum {
     PRACTICE_SW_PIN1_CHANGED = 0x9001,      /* done, by SET_PIN alone: PIN1 is another now */
     PRACTICE_SW_PIN2_CHANGED = 0x9002,
     PRACTICE_SW_PINS_CHANGED = 0x9003,
-    PRACTICE_SW_ERROR_PROCESSING_COMMAND = 0x6286, /* by WRITE_ISSUER_DATA alone: the issuer did not sign this */
+    PRACTICE_SW_ERROR_PROCESSING_COMMAND = 0x6286, /* by WRITE_ISSUER_DATA and ACTIVATE_CARD: the issuer did not sign this */
     PRACTICE_SW_WRONG_LENGTH = 0x6700,      /* the request has not 6 to 1,024 bytes, or does not end where its Lc says */
     PRACTICE_SW_NEED_ENCRYPTION = 0x6982,   /* P2 names an encryption (01, 02), and no session is open */
     PRACTICE_SW_INVALID_STATUS = 0x6985,    /* not in the card's state, or a condition of the command fails */
@@ -67,11 +67,12 @@ enum {
 
 /* What a question wants: its first byte. Beside each what answers it. */
 enum {
-    PRACTICE_MAKE_KEY = 1,      /* a key for this wallet: 65 bytes starting 04, or 32 on ed25519 */
-    PRACTICE_SIGN_HASH = 2,     /* the wallet key's signature of this hash: 64 bytes */
-    PRACTICE_HASH_AND_SIGN = 3, /* the wallet key's of the message's SHA-256, on ed25519 of its SHA-512: 64 bytes */
-    PRACTICE_CARD_SIGNS = 4,    /* the card key's of the message's SHA-256: 64 bytes */
-    PRACTICE_ISSUER_SIGNED = 5  /* do the first 64 bytes sign the SHA-256 of the rest under the issuer data key? 1 byte: 1 yes, 0 no */
+    PRACTICE_MAKE_KEY = 1,        /* a key for this wallet: 65 bytes starting 04, or 32 on ed25519 */
+    PRACTICE_SIGN_HASH = 2,       /* the wallet key's signature of this hash: 64 bytes */
+    PRACTICE_HASH_AND_SIGN = 3,   /* the wallet key's of the message's SHA-256, on ed25519 of its SHA-512: 64 bytes */
+    PRACTICE_CARD_SIGNS = 4,      /* the card key's of the message's SHA-256: 64 bytes */
+    PRACTICE_ISSUER_SIGNED = 5,   /* do the first 64 bytes sign the SHA-256 of the rest under the issuer data key? 1 byte: 1 yes, 0 no */
+    PRACTICE_ISSUER_CONFIRMED = 6 /* the same under the issuer transaction key: 1 byte: 1 yes, 0 no */
 };
 
 /* The curve of a card's wallets: a question's fourth byte, and a value of the image. */
@@ -122,9 +123,9 @@ practice_result practice_settle(const uint8_t *image, size_t image_len, const ui
 
 /* The fresh card of a personalisation sheet.
  *
- * in:   the sheet's text, thirteen lines
+ * in:   the sheet's text, fourteen lines
  * out:  0   the card's image stands at the start of image
- *       1 to 13   the first bad line, or 14 where bytes follow line 13: image is as it was
+ *       1 to 14   the first bad line, or 15 where bytes follow line 14: image is as it was
  *       99  image has fewer than PRACTICE_IMAGE_ROOM bytes, and is as it was */
 uint32_t practice_personalise(const uint8_t *sheet, size_t sheet_len, uint8_t *image, size_t image_len);
 

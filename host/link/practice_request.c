@@ -181,3 +181,12 @@ size_t practice_request_read_issuer_data(uint8_t *request, size_t room, const pr
 {
     return codes_alone(request, room, PRACTICE_INS_READ_ISSUER_DATA, codes, TO_CID);
 }
+
+size_t practice_request_activate_card(uint8_t *request, size_t room, const practice_codes *codes, const uint8_t *reset_pin1,
+                                      practice_bytes signature)
+{
+    practice_request made = begin(request, room, PRACTICE_INS_ACTIVATE_CARD, codes, TO_CID);
+    practice_request_field(&made, PRACTICE_TAG_RESET_PIN1, (practice_bytes){reset_pin1, 1});
+    practice_request_field(&made, PRACTICE_TAG_ACTIVATION_SIGNATURE, signature);
+    return practice_request_end(&made);
+}

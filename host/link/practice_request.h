@@ -1,4 +1,4 @@
-/* Requests for the practice card: one function for each of its twelve commands, and below them begin, field and end for any other.
+/* Requests for the practice card: one function for each of its thirteen commands, and below them begin, field and end for any other.
  *
  *   uint8_t request[PRACTICE_REQUEST_ROOM];
  *   practice_codes codes = practice_codes_of(image);
@@ -75,6 +75,11 @@ size_t practice_request_write_issuer_data(uint8_t *request, size_t room, const p
 /* PIN1, CID. */
 size_t practice_request_read_issuer_data(uint8_t *request, size_t room, const practice_codes *codes);
 
+/* PIN1, CID. Reset_PIN1 is 0, PIN1 stays, or 1, PIN1 becomes the SHA-256 of "000000". The issuer's signature, 64 bytes, is of the SHA-256
+ * of CID, Activation_Seed and that byte. A byte that is NULL is left out. */
+size_t practice_request_activate_card(uint8_t *request, size_t room, const practice_codes *codes, const uint8_t *reset_pin1,
+                                      practice_bytes signature);
+
 /* ---- field by field ---- */
 
 enum {
@@ -89,7 +94,8 @@ enum {
     PRACTICE_INS_READ_USER_DATA = 0xE1,
     PRACTICE_INS_WRITE_USER_DATA = 0xE0,
     PRACTICE_INS_WRITE_ISSUER_DATA = 0xF6,
-    PRACTICE_INS_READ_ISSUER_DATA = 0xF7
+    PRACTICE_INS_READ_ISSUER_DATA = 0xF7,
+    PRACTICE_INS_ACTIVATE_CARD = 0xFE
 };
 
 /* The fields of requests and of responses. */
@@ -115,8 +121,11 @@ enum {
     PRACTICE_TAG_USER_PROTECTED_COUNTER = 0x2D,
     PRACTICE_TAG_ISSUER_DATA = 0x32,
     PRACTICE_TAG_ISSUER_DATA_SIGNATURE = 0x33,
+    PRACTICE_TAG_ACTIVATION_SIGNATURE = 0x34,
     PRACTICE_TAG_ISSUER_DATA_COUNTER = 0x35,
+    PRACTICE_TAG_RESET_PIN1 = 0x36,
     PRACTICE_TAG_IS_ACTIVATED = 0x3A,
+    PRACTICE_TAG_ACTIVATION_SEED = 0x3B,
     PRACTICE_TAG_HASH_ARRAY = 0x50,
     PRACTICE_TAG_HASH_SIZE = 0x51,
     PRACTICE_TAG_WALLET_PUBLIC_KEY = 0x60,

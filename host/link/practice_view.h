@@ -22,6 +22,7 @@ typedef enum {
     PRACTICE_VIEW_CVC,
     PRACTICE_VIEW_CURVE, /* PRACTICE_SECP256K1 or PRACTICE_ED25519 */
     PRACTICE_VIEW_MAX_SIGNATURES,
+    PRACTICE_VIEW_ACTIVATION_SEED, /* for good, though READ_CARD tells it only until the card is activated */
     PRACTICE_VIEW_REUSABLE, /* the flags, 0 or 1 */
     PRACTICE_VIEW_CVC_USED,
     PRACTICE_VIEW_PIN1_MAY_CHANGE,
