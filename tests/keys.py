@@ -15,6 +15,8 @@ ORDER = SECP256k1.order
 CID = bytes.fromhex("AA00000000016675")
 OTHER_CID = bytes.fromhex("0000000000000001")
 SEED = b"practice"
+ACTIVATION_SEED = bytes.fromhex("00112233445566778899AABBCCDDEEFF")
+RESET, KEEP = b"\1", b"\0"
 HASH = bytes(range(32))
 
 
@@ -70,11 +72,15 @@ def question(kind: int, number: int, curve: int, message: bytes) -> bytes:
 
 
 def answer(seed: bytes, cid: bytes, kind: int, number: int, curve: int, message: bytes) -> bytes:
-    """Kinds 1 to 4; for kind 5 the vectors say what is right."""
+    """Kinds 1 to 4; for kinds 5 and 6 the vectors say what is right."""
     if kind == 4:
         return OnSecp256k1(secret(seed, b"card", cid, 0)).hash_and_sign(message)
     wallet = WALLET[curve](secret(seed, b"wallet", cid, number))
     return {1: lambda _: wallet.public(), 2: wallet.sign, 3: wallet.hash_and_sign}[kind](message)
+
+
+def with_last_bit_changed(signature: bytes) -> bytes:
+    return signature[:-1] + bytes([signature[-1] ^ 1])
 
 
 def with_high_s(signature: bytes) -> bytes:
@@ -100,6 +106,7 @@ def vectors():
     yield vector("kind 4", 4, 1, 1, text)
     yield vector("kind 4, another curve and wallet: the same key", 4, 7, 2, text)
     yield from issuer_vectors(CID + text)
+    yield from confirmation_vectors(CID + ACTIVATION_SEED)
 
 
 def issuer_vectors(message: bytes):
@@ -110,12 +117,31 @@ def issuer_vectors(message: bytes):
         ("the issuer's signature", right, 1),
         ("the issuer's with the high S", with_high_s(right), 1),
         ("the card's signature", cards, 0),
-        ("the issuer's with one bit changed", right[:-1] + bytes([right[-1] ^ 1]), 0),
+        ("the issuer's with one bit changed", with_last_bit_changed(right), 0),
         ("zeros", bytes(64), 0),
         ("an S of the order", right[:32] + order, 0),
     ):
         yield "kind 5, " + name, SEED, CID, question(5, 1, 1, signature + message), bytes([says])
     yield "kind 5, another curve and wallet: the same key", SEED, CID, question(5, 0, 2, right + message), b"\1"
+
+
+def confirmation_vectors(cid_and_seed: bytes):
+    """CID, seed and Reset_PIN1 are also the bytes of a note of 17 bytes, so that the two keys have to tell which of them was signed."""
+    data, transaction = (OnSecp256k1(secret(SEED, label, CID, 0)) for label in (b"issuer", b"transaction"))
+    reset, keep = cid_and_seed + RESET, cid_and_seed + KEEP
+    right = transaction.hash_and_sign(reset)
+    for name, kind, message, says in (
+        ("the issuer's confirmation", 6, right + reset, 1),
+        ("the issuer's that PIN1 stays", 6, transaction.hash_and_sign(keep) + keep, 1),
+        ("the issuer's with the high S", 6, with_high_s(right) + reset, 1),
+        ("the issuer's with one bit changed", 6, with_last_bit_changed(right) + reset, 0),
+        ("Reset_PIN1 changed after signing", 6, right + keep, 0),
+        ("signed by the issuer data key", 6, data.hash_and_sign(reset) + reset, 0),
+        ("a note of the same bytes, signed by the transaction key", 5, right + reset, 0),
+        ("the same note, signed by the issuer data key", 5, data.hash_and_sign(reset) + reset, 1),
+    ):
+        yield f"kind {kind}, {name}", SEED, CID, question(kind, 0, 1, message), bytes([says])
+    yield "kind 6, another curve and wallet: the same key", SEED, CID, question(6, 7, 2, right + reset), b"\1"
 
 
 def draws():
@@ -124,7 +150,7 @@ def draws():
 
 
 def publics():
-    for label in (b"card", b"issuer"):
+    for label in (b"card", b"issuer", b"transaction"):
         yield label.decode() + " key", SEED, CID, OnSecp256k1(secret(SEED, label, CID, 0)).public()
 
 

@@ -8,6 +8,7 @@
 #include "practice.h"
 
 #define SECRET 32
+#define LONGEST_LABEL 11
 #define QUESTION_HEADER 6
 
 typedef struct {
@@ -66,13 +67,13 @@ provider_result provider_draw(const uint8_t *seed, size_t seed_len, uint32_t tap
 
 /* ---- keys ---- */
 
-/* A card keeps its own key and its issuer's for life, so that the wallet number in a question must not reach those two. */
+/* A card keeps its own key and its issuer's two for life, so that the wallet number in a question must not reach those. */
 static provider_result secret_of(provider_seed seed, const uint8_t *cid, provider_owner owner, uint16_t wallet_number, uint8_t *secret)
 {
-    static const char *const labels[] = {"wallet", "card", "issuer"};
+    static const char *const labels[] = {"wallet", "card", "issuer", "transaction"};
     uint16_t number = owner == PROVIDER_WALLET ? wallet_number : 0;
     size_t label = strlen(labels[owner]);
-    uint8_t rest[6 + PROVIDER_CID + 3];
+    uint8_t rest[LONGEST_LABEL + PROVIDER_CID + 3];
     memcpy(rest, labels[owner], label);
     memcpy(rest + label, cid, PROVIDER_CID);
     uint8_t *tail = rest + label + PROVIDER_CID;
@@ -168,13 +169,25 @@ static provider_result sha512_and_sign(const uint8_t *secret, const uint8_t *mes
     return sign_on_ed25519(secret, hash, sizeof hash, signature);
 }
 
+static provider_result sign_as(provider_owner issuer, provider_seed seed, const uint8_t *cid, const uint8_t *message, size_t length,
+                               uint8_t *signature)
+{
+    uint8_t secret[SECRET];
+    if (secret_of(seed, cid, issuer, 0, secret) != PROVIDER_DONE)
+        return PROVIDER_FAILED;
+    return sha256_and_sign(secret, message, length, signature);
+}
+
 provider_result provider_issue(const uint8_t *seed, size_t seed_len, const uint8_t cid[PROVIDER_CID], const uint8_t *message,
                                size_t message_len, uint8_t signature[PROVIDER_SIGNATURE])
 {
-    uint8_t secret[SECRET];
-    if (secret_of((provider_seed){seed, seed_len}, cid, PROVIDER_ISSUER, 0, secret) != PROVIDER_DONE)
-        return PROVIDER_FAILED;
-    return sha256_and_sign(secret, message, message_len, signature);
+    return sign_as(PROVIDER_ISSUER, (provider_seed){seed, seed_len}, cid, message, message_len, signature);
+}
+
+provider_result provider_confirm(const uint8_t *seed, size_t seed_len, const uint8_t cid[PROVIDER_CID], const uint8_t *message,
+                                 size_t message_len, uint8_t signature[PROVIDER_SIGNATURE])
+{
+    return sign_as(PROVIDER_TRANSACTION, (provider_seed){seed, seed_len}, cid, message, message_len, signature);
 }
 
 /* Whether the first 64 bytes sign the SHA-256 of the rest. libsecp256k1 verifies a low S alone; a high one is as good a signature of
@@ -190,6 +203,7 @@ static provider_result issuer_signed(const uint8_t *secret, const question *aske
     int parsed = secp256k1_ecdsa_signature_parse_compact(secp256k1(), &signature, asked->message);
     if (parsed)
         secp256k1_ecdsa_signature_normalize(secp256k1(), &signature, &signature);
+    said->length = 1;
     said->bytes[0] = (uint8_t)(parsed && secp256k1_ecdsa_verify(secp256k1(), &signature, hash, &issuer));
     return PROVIDER_DONE;
 }
@@ -215,7 +229,8 @@ static int well_formed(const question *asked)
     case PRACTICE_SIGN_HASH: return asked->length == 32;
     case PRACTICE_HASH_AND_SIGN:
     case PRACTICE_CARD_SIGNS: return 1;
-    case PRACTICE_ISSUER_SIGNED: return asked->length >= PROVIDER_SIGNATURE;
+    case PRACTICE_ISSUER_SIGNED:
+    case PRACTICE_ISSUER_CONFIRMED: return asked->length >= PROVIDER_SIGNATURE;
     default: return 0;
     }
 }
@@ -225,15 +240,16 @@ static provider_owner owner_of(const question *asked)
     switch (asked->kind) {
     case PRACTICE_CARD_SIGNS: return PROVIDER_CARD;
     case PRACTICE_ISSUER_SIGNED: return PROVIDER_ISSUER;
+    case PRACTICE_ISSUER_CONFIRMED: return PROVIDER_TRANSACTION;
     default: return PROVIDER_WALLET;
     }
 }
 
-/* The answer to a well-formed question under its secret. Kinds 4 and 5 are on secp256k1 whatever the curve of the wallet. */
+/* The answer to a well-formed question under its secret. Kinds 4 to 6 are on secp256k1 whatever the curve of the wallet. */
 static provider_result reply(const question *asked, const uint8_t *secret, answer *said)
 {
     int on_ed25519 = asked->curve == PRACTICE_ED25519;
-    said->length = asked->kind == PRACTICE_ISSUER_SIGNED ? 1 : PROVIDER_SIGNATURE;
+    said->length = PROVIDER_SIGNATURE;
     switch (asked->kind) {
     case PRACTICE_MAKE_KEY: return (on_ed25519 ? key_on_ed25519 : key_on_secp256k1)(secret, said);
     case PRACTICE_SIGN_HASH:

@@ -26,10 +26,11 @@ typedef enum {
     PROVIDER_FAILED = 3        /* libsecp256k1 or libcrypto refused, which means that it lacks memory or the algorithm */
 } provider_result;
 
-/* Whose key: the wallet's on the card's curve; the card's and the issuer's always on secp256k1. */
-typedef enum { PROVIDER_WALLET, PROVIDER_CARD, PROVIDER_ISSUER } provider_owner;
+/* Whose key: the wallet's on the card's curve; the card's and the issuer's two always on secp256k1. The issuer signs notes with one and
+ * confirmations with the other: the bytes of a confirmation could be those of a note, and under one key each would pass for the other. */
+typedef enum { PROVIDER_WALLET, PROVIDER_CARD, PROVIDER_ISSUER, PROVIDER_TRANSACTION } provider_owner;
 
-/* Answers questions, kinds 1 to 5, one after the other.
+/* Answers questions, kinds 1 to 6, one after the other.
  *
  * in:   the seed (any bytes: the same seed, CID and wallet number make the same keys), the card's CID, the questions that
  *       practice_ask wrote
@@ -43,8 +44,12 @@ provider_result provider_answer(const uint8_t *seed, size_t seed_len, const uint
 provider_result provider_issue(const uint8_t *seed, size_t seed_len, const uint8_t cid[PROVIDER_CID], const uint8_t *message,
                                size_t message_len, uint8_t signature[PROVIDER_SIGNATURE]);
 
+/* The issuer's signature on a confirmation, as kind 6 verifies it: for ACTIVATE_CARD the message is CID, Activation_Seed, Reset_PIN1. */
+provider_result provider_confirm(const uint8_t *seed, size_t seed_len, const uint8_t cid[PROVIDER_CID], const uint8_t *message,
+                                 size_t message_len, uint8_t signature[PROVIDER_SIGNATURE]);
+
 /* A public key: 65 bytes starting 04, or 32 on ed25519; key_len says which. The curve (1 secp256k1, 2 ed25519) and the wallet
- * number speak of the wallet's key alone: the card's and the issuer's are the same whatever they say. */
+ * number speak of the wallet's key alone: the card's and the issuer's two are the same whatever they say. */
 provider_result provider_public_key(const uint8_t *seed, size_t seed_len, const uint8_t cid[PROVIDER_CID], provider_owner owner,
                                     uint16_t wallet_number, uint8_t curve, uint8_t key[PROVIDER_KEY], size_t *key_len);
 

@@ -53,7 +53,7 @@ static void answer_vector(const value *expected)
 static void key_vector(const value *expected)
 {
     static value said;
-    provider_owner owner = strncmp(name, "issuer", 6) == 0 ? PROVIDER_ISSUER : PROVIDER_CARD;
+    provider_owner owner = *name == 'i' ? PROVIDER_ISSUER : *name == 't' ? PROVIDER_TRANSACTION : PROVIDER_CARD;
     verdict(provider_public_key(seed.bytes, seed.length, cid.bytes, owner, 9, 2, said.bytes, &said.length), &said, expected);
 }
 
@@ -102,7 +102,7 @@ static provider_result answers_to(const char *hex, size_t room, size_t *length)
 static void refusals(void)
 {
     static const char *const bad[] = {"01", "0100010100", "0100010100 01", "010001010001AA", "0100010300 00", "0000010100 00",
-                                      "0600010100 00", "02000101001FAA", "0500010100 00"};
+                                      "0700010100 00", "02000101001FAA", "0500010100 00", "0600010100 00"};
     size_t length = 9;
     check("no question has no answer", answers_to("", 0, &length) == PROVIDER_DONE && length == 0);
     check("two questions have two answers", answers_to("010001010000 010002010000", 130, &length) == PROVIDER_DONE && length == 130);
