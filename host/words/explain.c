@@ -123,7 +123,7 @@ void explain_response(FILE *out, message request, message m)
 
 static void print_message(FILE *out, size_t at, uint8_t kind, message m)
 {
-    int verify = kind == PRACTICE_ISSUER_SIGNED && m.length >= SIGNATURE;
+    int verify = (kind == PRACTICE_ISSUER_SIGNED || kind == PRACTICE_ISSUER_CONFIRMED) && m.length >= SIGNATURE;
     if (verify)
         page_value(out, at, "signature", VALUE_BYTES, m.bytes, SIGNATURE);
     size_t skipped = verify ? SIGNATURE : 0;
@@ -138,9 +138,10 @@ static void print_question(FILE *out, message m, size_t at, size_t length)
         [PRACTICE_HASH_AND_SIGN] = "hash this message and sign it with the wallet key",
         [PRACTICE_CARD_SIGNS] = "SHA-256 of this message, signed with the card key",
         [PRACTICE_ISSUER_SIGNED] = "did the issuer data key sign the SHA-256 of the message?",
+        [PRACTICE_ISSUER_CONFIRMED] = "did the issuer transaction key sign the SHA-256 of the message?",
     };
     const uint8_t *question = m.bytes + at;
-    int is_kind = question[0] >= PRACTICE_MAKE_KEY && question[0] <= PRACTICE_ISSUER_SIGNED;
+    int is_kind = question[0] >= PRACTICE_MAKE_KEY && question[0] <= PRACTICE_ISSUER_CONFIRMED;
     page_part(out, at, "kind", "%u  %s", question[0], is_kind ? kinds[question[0]] : WORDS_UNKNOWN);
     page_part(out, at + 1, "wallet number", "%u", value_number(question + 1, 2));
     page_value(out, at + 3, "curve", VALUE_CURVE, question + 3, 1);
@@ -148,7 +149,7 @@ static void print_question(FILE *out, message m, size_t at, size_t length)
     if (length > 0)
         print_message(out, at + QUESTION, question[0], part_of(m, at + QUESTION, length));
     if (!is_kind)
-        page_wrong(out, at, "the kinds are 1 to 5");
+        page_wrong(out, at, "the kinds are %d to %d", PRACTICE_MAKE_KEY, PRACTICE_ISSUER_CONFIRMED);
     if (question[3] != PRACTICE_SECP256K1 && question[3] != PRACTICE_ED25519)
         page_wrong(out, at + 3, "a curve is 1 or 2");
 }

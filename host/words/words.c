@@ -28,6 +28,7 @@ static const command commands[] = {
     {0xE0, "WRITE_USER_DATA", "\x10\x01\x11\x2A\x2B\x2C\x2D"},
     {0xF6, "WRITE_ISSUER_DATA", "\x10\x01\x23\x32\x33\x35"},
     {0xF7, "READ_ISSUER_DATA", "\x10\x01\x23"},
+    {0xFE, "ACTIVATE_CARD", "\x10\x01\x36\x34"},
 };
 
 /* Of requests and of responses: no tag has two meanings. */
@@ -53,8 +54,11 @@ static const words_field fields[] = {
     {0x2D, "User_ProtectedCounter", VALUE_NUMBER, 4, 4, 1},
     {0x32, "Issuer_Data", VALUE_DATA, 1, 512, 1},
     {0x33, "Issuer_Data_Signature", VALUE_BYTES, 64, 64, 1},
+    {0x34, "Activation_Signature", VALUE_BYTES, 64, 64, 1},
     {0x35, "Issuer_Data_Counter", VALUE_NUMBER, 4, 4, 1},
+    {0x36, "Reset_PIN1", VALUE_FLAG, 1, 1, 1},
     {0x3A, "Is_Activated", VALUE_FLAG, 1, 1, 1},
+    {0x3B, "Activation_Seed", VALUE_BYTES, 16, 16, 1},
     {0x50, "Transaction_Hash", VALUE_HASHES, 32, 320, 32},
     {0x51, "Transaction_Hash_Size", VALUE_NUMBER, 1, 1, 1},
     {0x60, "Wallet_PublicKey", VALUE_BYTES, 32, 65, 33}, /* on ed25519, on secp256k1 */
