@@ -16,6 +16,7 @@ static const struct {
     [PRACTICE_VIEW_CVC] = {"CVC", VALUE_TEXT},
     [PRACTICE_VIEW_CURVE] = {"curve", VALUE_CURVE},
     [PRACTICE_VIEW_MAX_SIGNATURES] = {"Max_Signatures", VALUE_NUMBER},
+    [PRACTICE_VIEW_ACTIVATION_SEED] = {"Activation_Seed", VALUE_BYTES},
     [PRACTICE_VIEW_REUSABLE] = {"reusable", VALUE_FLAG},
     [PRACTICE_VIEW_CVC_USED] = {"CVC used", VALUE_FLAG},
     [PRACTICE_VIEW_PIN1_MAY_CHANGE] = {"PIN1 may change", VALUE_FLAG},
@@ -68,6 +69,18 @@ static int lacks_wallet_alone(const uint8_t *image)
     return is_card(without, practice_image_length());
 }
 
+int image_lacks_seed(const uint8_t *image, size_t length)
+{
+    uint8_t with[PRACTICE_IMAGE_ROOM] = {0};
+    practice_bytes lacked = practice_view(with, PRACTICE_VIEW_ACTIVATION_SEED);
+    size_t before = (size_t)(lacked.bytes - with);
+    if (length + lacked.length != practice_image_length())
+        return 0;
+    memcpy(with, image, before);
+    memcpy(with + before + lacked.length, image + before, length - before);
+    return is_card(with, practice_image_length());
+}
+
 complaint image_is_card(const uint8_t *image, size_t length)
 {
     uint32_t wanted = practice_image_length();
@@ -77,5 +90,8 @@ complaint image_is_card(const uint8_t *image, size_t length)
         return NULL;
     if (length == wanted && lacks_wallet_alone(image))
         return complain("holds signatures and no wallet, as no card does any more; 'tap new SHEET CARD' makes a fresh one from its sheet");
+    if (image_lacks_seed(image, length))
+        return complain("is a card from before activation, and has no seed; 'tap new SHEET CARD' makes a fresh one from a sheet that has line "
+                        "14, seed");
     return complain("is no card (%zu bytes; an image has %u)", length, wanted);
 }

@@ -15,7 +15,17 @@ static const char *const lines[SHEET_LINES] = {
     "nopurge, a tab and 0 or 1",
     "replay, a tab and 0 or 1",
     "active, a tab and 0 or 1",
+    "seed, a tab and 32 hex digits in capitals",
 };
+
+/* The last one counts without its line feed, too. */
+static uint32_t count_lines(const uint8_t *sheet, size_t length)
+{
+    uint32_t count = length > 0 && sheet[length - 1] != '\n';
+    for (size_t at = 0; at < length; at++)
+        count += sheet[at] == '\n';
+    return count;
+}
 
 complaint sheet_card(const uint8_t *sheet, size_t length, uint8_t image[PRACTICE_IMAGE_ROOM])
 {
@@ -24,5 +34,6 @@ complaint sheet_card(const uint8_t *sheet, size_t length, uint8_t image[PRACTICE
         return NULL;
     if (line > SHEET_LINES)
         return complain("line %u is bad: nothing may follow line %d", line, SHEET_LINES);
-    return complain("line %u is bad: it has to be %s, ended by a line feed", line, lines[line - 1]);
+    return complain("line %u is %s: it has to be %s, ended by a line feed", line, line > count_lines(sheet, length) ? "missing" : "bad",
+                    lines[line - 1]);
 }

@@ -12,6 +12,7 @@
 #define MANY 1000
 #define HASH 32
 #define CHALLENGE 16
+#define ACTIVATION_SEED 16
 #define TOP_32 0xFFFFFFFF
 
 static const practice_bytes left_out;
@@ -227,6 +228,30 @@ static complaint make_note(order *o)
                                                        counted ? &counter : NULL));
 }
 
+/* ---- activation ---- */
+
+/* The issuer's signature of CID, Activation_Seed and Reset_PIN1. */
+static complaint sign_confirmation(const order *o, uint8_t reset, uint8_t signature[PROVIDER_SIGNATURE])
+{
+    uint8_t message[PROVIDER_CID + ACTIVATION_SEED + 1];
+    const uint8_t *cid = o->codes.cid.bytes;
+    memcpy(message, cid, PROVIDER_CID);
+    memcpy(message + PROVIDER_CID, practice_view(o->from->image, PRACTICE_VIEW_ACTIVATION_SEED).bytes, ACTIVATION_SEED);
+    message[PROVIDER_CID + ACTIVATION_SEED] = reset;
+    if (provider_confirm(o->from->keys.bytes, o->from->keys.length, cid, message, sizeof message, signature) != PROVIDER_DONE)
+        return complain("the issuer could not sign");
+    return NULL;
+}
+
+static complaint make_activate(order *o)
+{
+    uint8_t signature[PROVIDER_SIGNATURE], reset = strcmp(o->operand[0], "reset") == 0;
+    if (!reset && strcmp(o->operand[0], "keep") != 0)
+        return complain("'%s' is neither keep nor reset", o->operand[0]);
+    complaint wrong = sign_confirmation(o, reset, signature);
+    return wrong ? wrong : ended(o, practice_request_activate_card(BUFFER(o), &reset, (practice_bytes){signature, sizeof signature}));
+}
+
 /* ---- the words ---- */
 
 static const row rows[] = {
@@ -245,6 +270,7 @@ static const row rows[] = {
     {"read-user", "", "READ_USER_DATA", 0, 0, practice_request_read_user_data, NULL},
     {"write-note", "TEXT [COUNTER]", "WRITE_ISSUER_DATA, signed by the practice issuer", 1, 2, NULL, make_note},
     {"read-note", "", "READ_ISSUER_DATA", 0, 0, practice_request_read_issuer_data, NULL},
+    {"activate", "keep|reset", "ACTIVATE_CARD, signed by the practice issuer; reset makes PIN1 000000", 1, 1, NULL, make_activate},
 };
 #define ROWS (sizeof rows / sizeof *rows)
 
@@ -282,6 +308,12 @@ static const row *row_of(const char *word)
 int request_is_word(const char *word)
 {
     return row_of(word) != NULL;
+}
+
+int request_is_issued(const char *word)
+{
+    const row *r = row_of(word);
+    return r && (r->make == make_note || r->make == make_activate);
 }
 
 complaint request_make(const request_source *from, size_t count, char *const *words, request *made)

@@ -21,7 +21,7 @@ typedef struct {
 typedef struct {
     const uint8_t *image;
     const uint8_t *draw; /* a challenge that is not given is the SHA-256 of this: one draw, one tap */
-    seed keys; /* the issuer's among them, for notes */
+    seed keys; /* the issuer's among them, for notes and confirmations */
     const char *pin1, *pin2, *cvc; /* sent instead of the card's own where not NULL; a PIN is hashed first */
 } request_source;
 
@@ -30,6 +30,9 @@ complaint request_make(const request_source *from, size_t count, char *const *wo
 
 /* Whether a request may begin with this word. Anything else has to be hex. */
 int request_is_word(const char *word);
+
+/* Whether the practice issuer signs what this word sends, so that making its request uses the seed's keys. */
+int request_is_issued(const char *word);
 
 /* The words that there are, a line each. */
 void request_help(FILE *out);

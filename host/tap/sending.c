@@ -7,6 +7,7 @@
 
 #include "card.h"
 #include "feed.h"
+#include "image.h"
 #include "recorder.h"
 #include "sheet.h"
 #include "showing.h"
@@ -29,12 +30,12 @@ static complaint about(const desk *d, complaint wrong)
 
 /* ---- one tap ---- */
 
-/* A note is signed by the issuer's key while its request is made. */
+/* What the issuer signs is signed by its key while the request is made. */
 static complaint make_request(desk *d, size_t count, char *const *words, tap *t)
 {
     request_source from = {d->c.image, t->draw, d->set->keys, d->set->pin1, d->set->pin2, d->set->cvc};
     complaint wrong = seed_draw(d->set->keys, d->taps + 1, t->draw);
-    if (!wrong && d->path && strcmp(words[0], "write-note") == 0)
+    if (!wrong && d->path && request_is_issued(words[0]))
         wrong = about(d, card_use_keys(&d->c, d->set->keys));
     memcpy(t->before, d->c.image, practice_image_length());
     return wrong ? wrong : request_make(&from, count, words, &t->sent);
@@ -212,7 +213,7 @@ complaint record_requests(const settings *set, const char *from, const char *fil
     wrong = sheet_card(bytes, length, d.c.image);
     if (!wrong)
         return record_sheet(&d, bytes, length, file, count, arguments);
-    if (length != practice_image_length())
+    if (length != practice_image_length() && !image_lacks_seed(bytes, length))
         return complain("%s: %s", from, wrong);
     d.path = from;
     return record_card(&d, file, count, arguments);

@@ -58,6 +58,8 @@ static complaint show_card(const settings *set, const char *path)
     return wrong;
 }
 
+#define KEY_NAME 30
+
 static complaint show_key(const char *name, seed keys, const uint8_t *image, provider_owner owner)
 {
     uint8_t key[PROVIDER_KEY];
@@ -65,8 +67,8 @@ static complaint show_key(const char *name, seed keys, const uint8_t *image, pro
     if (provider_public_key(keys.bytes, keys.length, image_get(image, PRACTICE_VIEW_CID).bytes, owner, 0, 1, key, &length) !=
         PROVIDER_DONE)
         return complain("the provider made no key");
-    printf("%-26s", name);
-    value_print(stdout, VALUE_BYTES, key, length, 26);
+    printf("%-*s", KEY_NAME, name);
+    value_print(stdout, VALUE_BYTES, key, length, KEY_NAME);
     return NULL;
 }
 
@@ -79,7 +81,9 @@ static complaint show_keys(const settings *set, const char *path)
     if (wrong)
         return about(path, wrong);
     wrong = show_key("Card_PublicKey", set->keys, image, PROVIDER_CARD);
-    return wrong ? wrong : show_key("Issuer_Data_PublicKey", set->keys, image, PROVIDER_ISSUER);
+    if (!wrong)
+        wrong = show_key("Issuer_Data_PublicKey", set->keys, image, PROVIDER_ISSUER);
+    return wrong ? wrong : show_key("Issuer_Transaction_PublicKey", set->keys, image, PROVIDER_TRANSACTION);
 }
 
 /* ---- the commands ---- */
