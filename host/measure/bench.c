@@ -172,7 +172,8 @@ static void personalise(uint8_t image[PRACTICE_IMAGE_ROOM], int usecvc)
              "cid\tAA00000000016675\n"
              "pin1\t1111111111111111111111111111111111111111111111111111111111111111\n"
              "pin2\t1111111111111111111111111111111111111111111111111111111111111111\n"
-             "cvc\t123\ncurve\tsecp256k1\nmax\t1000000\nreusable\t1\nusecvc\t%d\nsetpin1\t1\nsetpin2\t1\nnopurge\t1\nreplay\t1\nactive\t1\n",
+             "cvc\t123\ncurve\tsecp256k1\nmax\t1000000\nreusable\t1\nusecvc\t%d\nsetpin1\t1\nsetpin2\t1\nnopurge\t1\nreplay\t1\nactive\t1\n"
+             "seed\t00112233445566778899AABBCCDDEEFF\n",
              usecvc);
     if (practice_personalise((const uint8_t *)sheet, strlen(sheet), image, PRACTICE_IMAGE_ROOM) != 0)
         stop("the sheet is bad");
