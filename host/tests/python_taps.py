@@ -8,6 +8,7 @@ import sys
 import threading
 
 from reasons import REASONS
+from recordings import SHEET_LINES
 from rig import ROOT, SHEETS, check, end, fields, same
 
 sys.path.insert(0, str(ROOT / "host" / "python"))
@@ -54,15 +55,15 @@ def lessons():
     for path in sorted((ROOT / "lessons").glob("*.rec")):
         lines = lines_of(path.read_bytes())
         provider = Given()
-        card = Card.from_sheet(b"".join(lines[:13]), provider)
+        card = Card.from_sheet(b"".join(lines[:SHEET_LINES]), provider)
         image, different = card.image, []
-        for number, line in enumerate(lines[13:], 1):
+        for number, line in enumerate(lines[SHEET_LINES:], 1):
             request, draw, provider.answers, expected = parts_of(line)
             settled = twin.settle(image, request, draw, provider.answers)
             image = settled.image or image
             if (*tapped(card, request, draw), card.image) != (expected, settled.reason, image):
                 different.append(number)
-        check(named(f"{path.stem}: {len(lines) - 13} taps as they were recorded"), len(lines) > 20 and not different, str(different))
+        check(named(f"{path.stem}: {len(lines) - SHEET_LINES} taps as they were recorded"), len(lines) > 20 and not different, str(different))
 
 
 # ---------------------------------------------------------------- by chance
@@ -155,7 +156,7 @@ def bad_lines():
         wanted = rf"line {number} is bad; it has to be {line.split()[0]}, a tab and [\w ]+, ended by a line feed"
         check(named(f"a sheet with line {number} bad"), re.fullmatch(wanted, said), said)
     same(named("a sheet with a line too many"), raised(BadSheet, Card.from_sheet, SHEET + "\n", MadeUp()),
-         "line 14 is bad; it has to be nothing after line 13")
+         "line 15 is bad; it has to be nothing after line 14")
     check(named("an empty sheet"), raised(BadSheet, Card.from_sheet, "", MadeUp()).startswith("line 1 is bad"))
 
 
@@ -163,8 +164,8 @@ def bad_images():
     image = Card.from_sheet(SHEET, MadeUp()).image
     no_card = "the image is no card (docs/IMAGE.md)"
     for words, wrong in (("none", b""), ("one byte short", image[:-1]), ("one byte long", image + b"\0"), ("long", bytes(100_000)),
-                         ("Status 0", image[:87] + b"\0" + image[88:]), ("zeros", bytes(len(image))),
-                         ("signatures and no wallet", image[:1788] + b"\1" + b"s" * 64 + image[1853:])):
+                         ("Status 0", image[:103] + b"\0" + image[104:]), ("zeros", bytes(len(image))),
+                         ("signatures and no wallet", image[:1804] + b"\1" + b"s" * 64 + image[1869:])):
         same(named(f"an image, {words}"), raised(NotACard, Card.from_image, wrong, MadeUp()), no_card)
     same(named("an image of text"), raised(TypeError, Card.from_image, "card", MadeUp()), "an image is to be bytes, not str")
 

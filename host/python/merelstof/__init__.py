@@ -15,8 +15,8 @@ from .library import NoLibrary
 from .names import COMMANDS, REASONS, TAGS, WORDS
 from .providers import MadeUp, Provider, Question
 from .requests import (
-    Codes, check_wallet, command, create_wallet, purge_wallet, read_card, read_issuer_data, read_user_data, set_pin, sha256, sign,
-    validate_card, verify_card, write_issuer_data, write_user_data,
+    Codes, activate_card, check_wallet, command, create_wallet, purge_wallet, read_card, read_issuer_data, read_user_data, set_pin,
+    sha256, sign, validate_card, verify_card, write_issuer_data, write_user_data,
 )
 from .response import Field, Response
 from .view import Curve, Status

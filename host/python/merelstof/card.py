@@ -23,6 +23,7 @@ SHEET = (
     "nopurge, a tab and 0 or 1",
     "replay, a tab and 0 or 1",
     "active, a tab and 0 or 1",
+    "seed, a tab and 32 hex digits in capitals",
 )
 
 

@@ -13,6 +13,7 @@ COMMANDS = {
     0xE0: "WRITE_USER_DATA",
     0xF6: "WRITE_ISSUER_DATA",
     0xF7: "READ_ISSUER_DATA",
+    0xFE: "ACTIVATE_CARD",
 }
 
 # The fields of requests and of responses.
@@ -38,8 +39,11 @@ TAGS = {
     0x2D: "User_ProtectedCounter",
     0x32: "Issuer_Data",
     0x33: "Issuer_Data_Signature",
+    0x34: "Activation_Signature",
     0x35: "Issuer_Data_Counter",
+    0x36: "Reset_PIN1",
     0x3A: "Is_Activated",
+    0x3B: "Activation_Seed",
     0x50: "Transaction_Hash",
     0x51: "Transaction_Hash_Size",
     0x60: "Wallet_PublicKey",

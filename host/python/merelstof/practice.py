@@ -4,7 +4,8 @@ import hashlib
 from typing import List, Optional, Union
 
 from .providers import (
-    CARD_SIGN, HASH_AND_SIGN, ISSUER_SIGNED, MAKE_KEY, SIGN_HASH, SIGNATURE, Provider, Question, bytes_of, issuer_message,
+    CARD_SIGN, HASH_AND_SIGN, ISSUER_CONFIRMED, ISSUER_SIGNED, MAKE_KEY, SIGN_HASH, SIGNATURE, Provider, Question, bytes_of,
+    confirmation_message, issuer_message,
 )
 from .requests import sha256
 from .view import Curve
@@ -63,8 +64,9 @@ class Practice(Provider):
     def one(self, question: Question) -> bytes:
         if question.kind == CARD_SIGN:
             return self.card(question.cid).hash_and_sign(question.message)
-        if question.kind == ISSUER_SIGNED:
-            return bytes([self.issuer(question.cid).signed(question.message[:SIGNATURE], question.message[SIGNATURE:])])
+        if question.kind in (ISSUER_SIGNED, ISSUER_CONFIRMED):
+            key = (self.issuer if question.kind == ISSUER_SIGNED else self.transaction)(question.cid)
+            return bytes([key.signed(question.message[:SIGNATURE], question.message[SIGNATURE:])])
         wallet = self.wallet(question.cid, question.wallet_number, question.curve)
         if question.kind == MAKE_KEY:
             return wallet.public()
@@ -74,6 +76,10 @@ class Practice(Provider):
         """The issuer's signature on a note."""
         return self.issuer(cid).hash_and_sign(issuer_message(cid, data, counter))
 
+    def confirm(self, cid: bytes, activation_seed: bytes, reset_pin1: bool) -> bytes:
+        """The issuer's signature on a confirmation."""
+        return self.transaction(cid).hash_and_sign(confirmation_message(cid, activation_seed, reset_pin1))
+
     def wallet(self, cid: bytes, number: int, curve: Curve) -> Union[OnSecp256k1, OnEd25519]:
         return WALLET[curve](self.secret(b"wallet", cid, number))
 
@@ -82,6 +88,9 @@ class Practice(Provider):
 
     def issuer(self, cid: bytes) -> OnSecp256k1:
         return OnSecp256k1(self.secret(b"issuer", cid, 0))
+
+    def transaction(self, cid: bytes) -> OnSecp256k1:
+        return OnSecp256k1(self.secret(b"transaction", cid, 0))
 
     def secret(self, label: bytes, cid: bytes, number: int) -> bytes:
         """The first of these hashes that is a secret key of secp256k1."""

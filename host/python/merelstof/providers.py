@@ -5,7 +5,7 @@ from typing import List, NamedTuple, Optional, Union
 
 from .view import Curve
 
-MAKE_KEY, SIGN_HASH, HASH_AND_SIGN, CARD_SIGN, ISSUER_SIGNED = range(1, 6)
+MAKE_KEY, SIGN_HASH, HASH_AND_SIGN, CARD_SIGN, ISSUER_SIGNED, ISSUER_CONFIRMED = range(1, 7)
 SIGNATURE = 64
 QUESTION_HEAD = 6
 
@@ -32,6 +32,11 @@ def questions_of(asked: bytes, cid: bytes) -> List[Question]:
 def issuer_message(cid: bytes, data: bytes, counter: Optional[int]) -> bytes:
     """What the issuer signs of a note; the counter only on a card with replay protection."""
     return cid + data + (b"" if counter is None else counter.to_bytes(4, "big"))
+
+
+def confirmation_message(cid: bytes, activation_seed: bytes, reset_pin1: bool) -> bytes:
+    """What the issuer signs of an activation."""
+    return cid + activation_seed + bytes([reset_pin1])
 
 
 def bytes_of(seed: Union[str, bytes]) -> bytes:
@@ -64,7 +69,7 @@ class MadeUp(Provider):
     def one(self, question: Question) -> bytes:
         if question.kind == MAKE_KEY:
             return self.key(question.wallet_number, question.curve)
-        if question.kind == ISSUER_SIGNED:
+        if question.kind in (ISSUER_SIGNED, ISSUER_CONFIRMED):
             return bytes([self.signature(question.message[SIGNATURE:]) == question.message[:SIGNATURE]])
         return self.signature(question.message)
 
@@ -80,3 +85,7 @@ class MadeUp(Provider):
     def issue(self, cid: bytes, data: bytes, counter: Optional[int] = None) -> bytes:
         """The issuer's signature on a note."""
         return self.signature(issuer_message(cid, data, counter))
+
+    def confirm(self, cid: bytes, activation_seed: bytes, reset_pin1: bool) -> bytes:
+        """The issuer's signature on a confirmation."""
+        return self.signature(confirmation_message(cid, activation_seed, reset_pin1))

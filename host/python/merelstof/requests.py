@@ -1,4 +1,4 @@
-"""The twelve commands as requests: bytes for Card.tap, or for a card in a reader.
+"""The thirteen commands as requests: bytes for Card.tap, or for a card in a reader.
 
 The first argument says whose codes go in: a Card, or Codes of one's own. Each may be given anew by its name, or be left out by None:
 
@@ -121,3 +121,8 @@ def write_issuer_data(source: Source, data: bytes, signature: bytes, counter: Op
 
 def read_issuer_data(source: Source, **codes) -> bytes:
     return coded(0xF7, source, WITH_CID, codes)
+
+
+def activate_card(source: Source, signature: bytes, reset_pin1: bool, **codes) -> bytes:
+    """The issuer signs CID, Activation_Seed and reset_pin1, whether PIN1 becomes that of 000000: a provider's `confirm` does."""
+    return coded(0xFE, source, WITH_CID, codes, (0x36, bytes([reset_pin1])), (0x34, signature))

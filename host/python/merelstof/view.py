@@ -85,6 +85,7 @@ class View:
     cvc = Value(3)
     curve = Value(1, curve)
     max_signatures = Value(4, number)
+    activation_seed = Value(16)
     reusable = Value(1, flag)
     cvc_used = Value(1, flag)
     pin1_may_change = Value(1, flag)
