@@ -3,10 +3,12 @@
 use merelstof::{Card, MadeUp};
 use std::io::Read;
 
+const IMAGE: usize = 2445;
+
 fn main() {
     let mut images = Vec::new();
     std::io::stdin().read_to_end(&mut images).expect("images on standard input");
-    for image in images.chunks(2429) {
+    for image in images.chunks(IMAGE) {
         match Card::from_image(image, MadeUp::default()) {
             Ok(card) => show(&card),
             Err(why) => println!("{why}"),
@@ -22,6 +24,7 @@ fn show(card: &Card<MadeUp>) {
     println!("cvc {}", hex(view.cvc()));
     println!("curve {:?}", view.curve());
     println!("max_signatures {}", view.max_signatures());
+    println!("activation_seed {}", hex(view.activation_seed()));
     println!("reusable {}", view.reusable());
     println!("cvc_used {}", view.cvc_used());
     println!("pin1_may_change {}", view.pin1_may_change());

@@ -1,6 +1,6 @@
 //! A practice card for the tests of an app: it answers as a card in a reader does, with nothing running.
 //!
-//! [`Card::from_sheet`] makes a card, [`requests`] has the twelve commands, [`Card::tap`] sends one, [`Card::view`] tells what the card
+//! [`Card::from_sheet`] makes a card, [`requests`] has the thirteen commands, [`Card::tap`] sends one, [`Card::view`] tells what the card
 //! holds. The cryptography is lent by a [`Provider`]; [`MadeUp`] needs none. `examples/tap.rs` is a whole program.
 
 #![deny(unsafe_code)]

@@ -1,6 +1,6 @@
 //! The paper's names: commands by INS, fields by tag, status words. And the card's checks in words.
 
-const COMMANDS: [(u8, &str); 12] = [
+const COMMANDS: [(u8, &str); 13] = [
     (0xF2, "READ_CARD"),
     (0xF8, "CREATE_WALLET"),
     (0xF9, "CHECK_WALLET"),
@@ -13,9 +13,10 @@ const COMMANDS: [(u8, &str); 12] = [
     (0xE0, "WRITE_USER_DATA"),
     (0xF6, "WRITE_ISSUER_DATA"),
     (0xF7, "READ_ISSUER_DATA"),
+    (0xFE, "ACTIVATE_CARD"),
 ];
 
-const TAGS: [(u8, &str); 30] = [
+const TAGS: [(u8, &str); 33] = [
     (0x01, "CID"),
     (0x02, "Status"),
     (0x04, "Card_Signature"),
@@ -37,8 +38,11 @@ const TAGS: [(u8, &str); 30] = [
     (0x2D, "User_ProtectedCounter"),
     (0x32, "Issuer_Data"),
     (0x33, "Issuer_Data_Signature"),
+    (0x34, "Activation_Signature"),
     (0x35, "Issuer_Data_Counter"),
+    (0x36, "Reset_PIN1"),
     (0x3A, "Is_Activated"),
+    (0x3B, "Activation_Seed"),
     (0x50, "Transaction_Hash"),
     (0x51, "Transaction_Hash_Size"),
     (0x60, "Wallet_PublicKey"),

@@ -20,6 +20,8 @@ pub enum Kind {
     CardSign,
     /// Do the first 64 bytes sign the SHA-256 of the rest under the issuer data key? One byte: 1 yes, 0 no.
     IssuerSigned,
+    /// The same under the issuer transaction key. One byte: 1 yes, 0 no.
+    IssuerConfirmed,
 }
 
 /// One question of a card.
@@ -45,7 +47,8 @@ pub trait Provider {
 }
 
 pub(crate) fn questions_of<'a>(mut asked: &'a [u8], cid: &'a [u8]) -> Vec<Question<'a>> {
-    const KINDS: [Kind; 5] = [Kind::MakeKey, Kind::SignHash, Kind::HashAndSign, Kind::CardSign, Kind::IssuerSigned];
+    const KINDS: [Kind; 6] =
+        [Kind::MakeKey, Kind::SignHash, Kind::HashAndSign, Kind::CardSign, Kind::IssuerSigned, Kind::IssuerConfirmed];
     let mut questions = Vec::new();
     while let [kind, high, low, curve, ..] = *asked {
         let end = HEAD + number(&asked[4..HEAD]) as usize;
@@ -80,6 +83,11 @@ impl MadeUp {
         MadeUp::signature(&[cid, data, &counter].concat())
     }
 
+    /// The issuer's signature on a confirmation.
+    pub fn confirm(cid: &[u8], activation_seed: &[u8], reset_pin1: bool) -> Vec<u8> {
+        MadeUp::signature(&[cid, activation_seed, &[reset_pin1.into()]].concat())
+    }
+
     fn key(wallet_number: u16, curve: Curve) -> Vec<u8> {
         let counted = (0..64).map(|at| wallet_number.wrapping_add(at) as u8);
         match curve {
@@ -93,7 +101,7 @@ impl Provider for MadeUp {
     fn answer(&mut self, questions: &[Question]) -> Vec<u8> {
         let one = |question: &Question| match question.kind {
             Kind::MakeKey => MadeUp::key(question.wallet_number, question.curve),
-            Kind::IssuerSigned => {
+            Kind::IssuerSigned | Kind::IssuerConfirmed => {
                 let (signature, message) = question.message.split_at(SIGNATURE);
                 vec![u8::from(MadeUp::signature(message) == signature)]
             }

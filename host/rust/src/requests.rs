@@ -1,4 +1,4 @@
-//! The twelve commands as requests: bytes for [`Card::tap`](crate::Card::tap), or for a card in a reader.
+//! The thirteen commands as requests: bytes for [`Card::tap`](crate::Card::tap), or for a card in a reader.
 //!
 //! The codes are those of a card, `&card.codes()`, or one's own. PIN1 and PIN2 are what goes over the air: the SHA-256 of what the user
 //! types. `None` leaves a code out.
@@ -129,4 +129,9 @@ pub fn write_issuer_data(codes: &Codes, data: &[u8], signature: &[u8], counter: 
 
 pub fn read_issuer_data(codes: &Codes) -> Vec<u8> {
     with_cid(0xF7, codes).bytes()
+}
+
+/// The issuer signs CID, Activation_Seed and `reset_pin1`, whether PIN1 becomes that of 000000, as a byte.
+pub fn activate_card(codes: &Codes, signature: &[u8], reset_pin1: bool) -> Vec<u8> {
+    with_cid(0xFE, codes).field(0x36, &[reset_pin1.into()]).field(0x34, signature).bytes()
 }

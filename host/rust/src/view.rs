@@ -43,7 +43,8 @@ const CID: Place = PIN2.then(8);
 const CVC: Place = CID.then(3);
 const CURVE: Place = CVC.then(1);
 const MAX_SIGNATURES: Place = CURVE.then(4);
-const REUSABLE: Place = MAX_SIGNATURES.then(1);
+const ACTIVATION_SEED: Place = MAX_SIGNATURES.then(16);
+const REUSABLE: Place = ACTIVATION_SEED.then(1);
 const CVC_USED: Place = REUSABLE.then(1);
 const PIN1_MAY_CHANGE: Place = CVC_USED.then(1);
 const PIN2_MAY_CHANGE: Place = PIN1_MAY_CHANGE.then(1);
@@ -119,6 +120,11 @@ impl<'a> View<'a> {
 
     pub fn max_signatures(self) -> u32 {
         self.number(MAX_SIGNATURES)
+    }
+
+    /// For good, though READ_CARD tells it only until the card is activated.
+    pub fn activation_seed(self) -> &'a [u8] {
+        self.at(ACTIVATION_SEED)
     }
 
     pub fn reusable(self) -> bool {

@@ -22,7 +22,7 @@ fn a_bad_line_of_a_sheet_is_told_by_its_number() {
         assert!(error.to_string().starts_with(&format!("line {} is bad; it has to be {name}, a tab and ", at + 1)), "{error}");
     }
     assert_eq!(made_of("").unwrap(), Error::BadSheet(1));
-    assert_eq!(made_of(&format!("{SHEET}\n")).unwrap().to_string(), "line 14 is bad; it has to be nothing after line 13");
+    assert_eq!(made_of(&format!("{SHEET}\n")).unwrap().to_string(), "line 15 is bad; it has to be nothing after line 14");
 }
 
 #[test]
@@ -30,10 +30,10 @@ fn what_is_no_card_is_none() {
     let image = Card::from_sheet(SHEET, MadeUp::default()).unwrap().image().to_vec();
     assert!(Card::from_image(&image, MadeUp::default()).is_ok());
     let mut status = image.clone();
-    status[87] = 0;
+    status[103] = 0;
     let mut signatures_and_no_wallet = image.clone();
-    signatures_and_no_wallet[1788..1853].fill(1);
-    for wrong in [&[][..], &image[1..], &status, &signatures_and_no_wallet, &[0; 2429], &[0; 100_000]] {
+    signatures_and_no_wallet[1804..1869].fill(1);
+    for wrong in [&[][..], &image[1..], &status, &signatures_and_no_wallet, &[0; 2445], &[0; 100_000]] {
         assert_eq!(Card::from_image(wrong, MadeUp::default()).err(), Some(Error::NotACard));
     }
 }

@@ -32,3 +32,11 @@ fn the_issuer_signs_one_note() {
     assert_eq!((asked(b"12345678text\0\0\0\x09"), asked(b"12345678text\0\0\0\x0a")), (vec![1], vec![0]));
     assert_eq!(MadeUp::issue(b"12345678", b"text", None)[..16], *b"12345678text\0\0\0\0");
 }
+
+#[test]
+fn the_issuer_confirms_one_activation() {
+    let signature = MadeUp::confirm(b"12345678", b"sixteen  letters", true);
+    assert_eq!(signature, [b"12345678sixteen  letters\x01".to_vec(), vec![0; 39]].concat());
+    let asked = |message: &[u8]| answer(Kind::IssuerConfirmed, 0, Curve::Secp256k1, &[&signature, message].concat());
+    assert_eq!((asked(b"12345678sixteen  letters\x01"), asked(b"12345678sixteen  letters\0")), (vec![1], vec![0]));
+}

@@ -1,6 +1,6 @@
 //! What a provider is asked, kind by kind, by hand.
 
-use merelstof::requests::{check_wallet, create_wallet, sign, verify_card, write_issuer_data};
+use merelstof::requests::{activate_card, check_wallet, create_wallet, sign, verify_card, write_issuer_data};
 use merelstof::{Card, Curve, Kind, MadeUp, Provider, Question};
 
 type Asked = (Kind, u16, Curve, Vec<u8>, Vec<u8>);
@@ -26,7 +26,7 @@ impl Provider for Keeping {
 /// The card of a sheet whose last wallet was number 257.
 fn card(sheet: &str) -> Card<Keeping> {
     let mut image = Card::from_sheet(sheet, MadeUp::default()).unwrap().image().to_vec();
-    image[88..90].copy_from_slice(&[1, 1]);
+    image[104..106].copy_from_slice(&[1, 1]);
     Card::from_image(&image, Keeping::default()).unwrap()
 }
 
@@ -57,4 +57,18 @@ fn each_kind_of_question() {
         let written = asked(&mut card, write_issuer_data(&codes, b"OK", &signature, Some(9)));
         assert_eq!(written, [one(Kind::IssuerSigned, &[signature, note].concat())]);
     }
+}
+
+/// The signature, then CID, Activation_Seed and Reset_PIN1, as the card holds them and was sent them.
+#[test]
+fn whether_the_issuer_confirmed() {
+    let sheet = include_str!("../../examples/secp256k1.sheet").replace("active\t1", "active\t0");
+    let mut card = Card::from_sheet(&sheet, Keeping::default()).unwrap();
+    let cid = [0xAA, 0, 0, 0, 0, 1, 0x66, 0x75];
+    let seed = [0x00, 0x11, 0x22, 0x33, 0x44, 0x55, 0x66, 0x77, 0x88, 0x99, 0xAA, 0xBB, 0xCC, 0xDD, 0xEE, 0xFF];
+    let signature = MadeUp::confirm(&cid, &seed, true);
+    let codes = card.codes();
+    let message = [&signature[..], &cid, &seed, &[1]].concat();
+    let expected = [(Kind::IssuerConfirmed, 0, Curve::Secp256k1, message, cid.to_vec())];
+    assert_eq!(asked(&mut card, activate_card(&codes, &signature, true)), expected);
 }

@@ -5,7 +5,7 @@ use merelstof::{Card, Error, Provider, Question};
 use std::path::Path;
 use std::{env, fs};
 
-const SHEET_LINES: usize = 13;
+const SHEET_LINES: usize = 14;
 
 /// Draw and answers of the tap under way, as the recording has them.
 #[derive(Default)]

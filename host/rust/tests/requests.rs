@@ -1,4 +1,4 @@
-//! The twelve commands, each as its bytes by hand.
+//! The thirteen commands, each as its bytes by hand.
 
 use merelstof::requests::*;
 use merelstof::{names, Card, Codes, MadeUp};
@@ -58,6 +58,8 @@ fn each_command_has_the_bytes_of_the_paper() {
         (write_issuer_data(&c, b"OK", &[0x99; 64], Some(9)), "00F6000078", format!("P1 CID 32024F4B 3340{} 350400000009", "99".repeat(64))),
         (write_issuer_data(&c, b"OK", &[0x99; 64], None), "00F6000072", format!("P1 CID 32024F4B 3340{}", "99".repeat(64))),
         (read_issuer_data(&c), "00F700002C", "P1 CID".to_string()),
+        (activate_card(&c, &[0x34; 64], false), "00FE000071", format!("P1 CID 360100 3440{}", "34".repeat(64))),
+        (activate_card(&c, &[0x34; 64], true), "00FE000071", format!("P1 CID 360101 3440{}", "34".repeat(64))),
     ] {
         assert_eq!(hex(&made), by_hand(head, &fields), "{}", names::command(made[1]));
     }
