@@ -3,7 +3,7 @@
 import rig  # noqa: F401  puts tests/ on the path
 from twin.card import personalise, settle
 
-SHEET_LINES = 13
+SHEET_LINES = 14
 
 
 def taps_of(recording: bytes) -> list:

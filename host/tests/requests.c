@@ -61,6 +61,7 @@ static size_t make(size_t room, uint8_t ins, int count)
         return practice_request_write_user_data(buffer, room, &codes, own[0], own[1], counter(6), counter(7));
     case PRACTICE_INS_WRITE_ISSUER_DATA: return practice_request_write_issuer_data(buffer, room, &codes, own[0], own[1], counter(6));
     case PRACTICE_INS_READ_ISSUER_DATA: return practice_request_read_issuer_data(buffer, room, &codes);
+    case PRACTICE_INS_ACTIVATE_CARD: return practice_request_activate_card(buffer, room, &codes, own[0].bytes, own[1]);
     default: return by_fields(room, ins, count);
     }
 }
