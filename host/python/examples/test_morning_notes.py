@@ -18,6 +18,7 @@ setpin2	1
 nopurge	0
 replay	1
 active	1
+seed	00112233445566778899AABBCCDDEEFF
 """
 CHECKS = [sha256(text) for text in ("hours 1204", "oil 4.1 bar", "coolant full", "belt checked", "filter changed")]
 
