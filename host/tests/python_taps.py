@@ -157,6 +157,8 @@ def bad_lines():
         check(named(f"a sheet with line {number} bad"), re.fullmatch(wanted, said), said)
     same(named("a sheet with a line too many"), raised(BadSheet, Card.from_sheet, SHEET + "\n", MadeUp()),
          "line 15 is bad; it has to be nothing after line 14")
+    same(named("a sheet from before activation"), raised(BadSheet, Card.from_sheet, "".join(lines[:13]), MadeUp()),
+         "line 14 is bad; it has to be seed, a tab and 32 hex digits in capitals, ended by a line feed")
     check(named("an empty sheet"), raised(BadSheet, Card.from_sheet, "", MadeUp()).startswith("line 1 is bad"))
 
 
@@ -165,6 +167,7 @@ def bad_images():
     no_card = "the image is no card (docs/IMAGE.md)"
     for words, wrong in (("none", b""), ("one byte short", image[:-1]), ("one byte long", image + b"\0"), ("long", bytes(100_000)),
                          ("Status 0", image[:103] + b"\0" + image[104:]), ("zeros", bytes(len(image))),
+                         ("from before activation, without a seed", image[:80] + image[96:]),
                          ("signatures and no wallet", image[:1804] + b"\1" + b"s" * 64 + image[1869:])):
         same(named(f"an image, {words}"), raised(NotACard, Card.from_image, wrong, MadeUp()), no_card)
     same(named("an image of text"), raised(TypeError, Card.from_image, "card", MadeUp()), "an image is to be bytes, not str")

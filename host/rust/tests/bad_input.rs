@@ -22,6 +22,8 @@ fn a_bad_line_of_a_sheet_is_told_by_its_number() {
         assert!(error.to_string().starts_with(&format!("line {} is bad; it has to be {name}, a tab and ", at + 1)), "{error}");
     }
     assert_eq!(made_of("").unwrap(), Error::BadSheet(1));
+    let from_before_activation = made_of(&lines[..13].concat()).unwrap().to_string();
+    assert_eq!(from_before_activation, "line 14 is bad; it has to be seed, a tab and 32 hex digits in capitals, ended by a line feed");
     assert_eq!(made_of(&format!("{SHEET}\n")).unwrap().to_string(), "line 15 is bad; it has to be nothing after line 14");
 }
 
@@ -33,7 +35,8 @@ fn what_is_no_card_is_none() {
     status[103] = 0;
     let mut signatures_and_no_wallet = image.clone();
     signatures_and_no_wallet[1804..1869].fill(1);
-    for wrong in [&[][..], &image[1..], &status, &signatures_and_no_wallet, &[0; 2445], &[0; 100_000]] {
+    let without_seed = [&image[..80], &image[96..]].concat();
+    for wrong in [&[][..], &image[1..], &status, &signatures_and_no_wallet, &without_seed, &[0; 2445], &[0; 100_000]] {
         assert_eq!(Card::from_image(wrong, MadeUp::default()).err(), Some(Error::NotACard));
     }
 }
