@@ -6,37 +6,34 @@ use mathlib.Core.List.{List, [], _∷_, _++_, append-assoc}
 use mathlib.Core.Bool.{Bool, true, false, cond, not}
 use lib.ListN.{length}
 use lib.Dec.{eqb}
-use borrow.Author.Tests.{ltb-true, eqb-true, not-true}
+use borrow.Author.Tests.{ltb-true, eqb-true}
 use Rattle.wire.specs.Wire.{be1, be2, be4, joined}
-use Rattle.fields.specs.Fields.{View, has, val, holds, fld, tlv, each, written, among, firstOf}
-use Rattle.card.specs.declared.Flags.{Flags}
-use Rattle.card.specs.declared.Front.{Front}
+use Rattle.fields.specs.Fields.{View, has, val, holds, tlv, each, written, among, firstOf}
 use Rattle.card.specs.declared.Face.{Face}
 use Rattle.card.specs.declared.Card.{Card}
 use Rattle.card.specs.Layout.{top16}
-use Rattle.card.specs.Values.{u16, keyOf, lastOf}
+use Rattle.card.specs.Values.{u16, lastOf}
 use Rattle.manual.specs.Words.{swProcessCompleted, questionsRoom}
-use Rattle.manual.specs.Tags.{CID, CVC, Status, CurveID, Challenge, ActivationSignature, ResetPIN1, ActivationSeed, TransactionHash}
-use Rattle.manual.specs.Tags.{WalletPublicKey, Signature, Remaining, SignedHashes}
+use Rattle.manual.specs.Tags.{CID, CVC, Status, Challenge, ActivationSeed, TransactionHash}
+use Rattle.manual.specs.Tags.{Signature, Remaining, SignedHashes}
 use Rattle.manual.specs.declared.Command.{Command}
 use Rattle.manual.specs.declared.Command.the-variants.{ReadCard, CreateWallet, CheckWallet, Sign, ActivateCard}
 use Rattle.manual.specs.Request.{code, command}
 use Rattle.manual.specs.Row.{Matched, Question, question, asked, eachAsked, shaped, Row, asksCvc}
-use Rattle.manual.specs.Wallet.{statusField, isLoaded, isActive, curveName, readFields, readCard, createWallet, sign, isNew, count, hashQuestions}
+use Rattle.manual.specs.Wallet.{isLoaded, isActive, readCard, createWallet, sign, isNew, count, hashQuestions}
 use Rattle.manual.specs.Checking.{checkWallet, keyAsked, keyMessage, salt}
-use Rattle.manual.specs.Activation.{activateCard}
 use Rattle.manual.specs.Commands.{row}
 use Rattle.manual.specs.Settle.{Call, sentIn, matched, fieldsOf, done, saidTo}
 use Rattle.facts.proofs.Facts.{Small, small-shape, facts, writes}
 use Rattle.story.specs.Sums.{Sheet, History, tap, toldIn, accepted, ins, did, signedNew, active, status, wallets, everPurged, made, total, usesWallet}
 use Rattle.history.specs.Demands.{signFields, signResponse, Entitled, NewSign, signQuestions, Asks, nothing, due, allKinds, Poses, isCardKind, mayAsk}
-use Rattle.history.specs.Demands.{given, Waking, wakeQuestions, wakeResponse, whileAsleep, isWakeKind, Rightful, Repeated, Woken, OneMore}
+use Rattle.history.specs.Demands.{given, Waking, wakeQuestions, whileAsleep, isWakeKind, Rightful, Repeated, Woken, OneMore}
 use Rattle.history.proofs.Choice.{both-true, or-false, or-other, clash, did-read, did-sign, did-activate}
 use Rattle.history.proofs.Choice.{listed-ins, by-ins, may-ask, may-ask-purged, uses-by}
 use Rattle.history.proofs.Taps.{has-told, val-told, Passed, by-tap, Carried, carried, lists}
 use Rattle.history.proofs.Seen.{look, watch, Inv, awake}
 use Rattle.history.proofs.Conduct.{Reports, loaded, emptied}
-use Rattle.history.proofs.Activation.{said-yes, Sleeper, sleeper}
+use Rattle.history.proofs.Activation.{Sleeper, sleeper, seed-among, seed-first, asleep-face, wake-due, woke}
 use Rattle.history.proofs.Commands.{conduct}
 use Rattle.history.proofs.Sign.{needed, still, Signed, new-signed, no-question}
 use Rattle.history.proofs.Cards.{after, xs, Fits, fits-tap}
@@ -50,38 +47,8 @@ sign-says : (m : Matched) (f : Face) (v : View) (d a : List ℕ) → done sign m
 unfolding done signBytes
 sign-says m f v d a = refl
 
--- ACTIVATE_CARD's, of an Empty card's face
-wakeBytes : Face → List ℕ
-wakeBytes f =
-    let g : Front = f .front in
-    written
-    (fld CID (g .fixed .cid) ∷ fld Status (be1 (g .wallet .status)) ∷ fld CurveID (curveName (g .fixed .curve))
-    ∷ fld SignedHashes (be4 (g .wallet .signed)) ∷ [])
-    ++ be2 swProcessCompleted
-
-wake-says :
-    (m : Matched) (f : Face) (v : View) (d a : List ℕ) → f .front .wallet .status ≡ 1 → done activateCard m f v d a .response ≡ wakeBytes f
-unfolding done wakeBytes
-wake-says m f v d a s =
-    let none : isLoaded f ≡ false = ap (λ n. eqb n 2) s in
-    ap
-    (λ b.
-    written (fld CID (f .front .fixed .cid) ∷ statusField f ∷ fld CurveID (curveName (f .front .fixed .curve))
-    ∷ fld SignedHashes (be4 (f .front .wallet .signed)) ∷ cond b (fld WalletPublicKey (keyOf (f .front .key)) ∷ fld Remaining (be4 (f .front .wallet .remaining)) ∷ []) [])
-    ++ be2 swProcessCompleted)
-    none
-
 alive-after : (m : Matched) (f : Face) (v : View) (a : List ℕ) → Passed sign m f v → sign .next f v a .front .wallet .status ≡ 2
 alive-after m f v a h = still (isNew v) f (count v) a ∙ needed m f v h .alive
-
--- the seed is told of a card that is not activated
-seed-among : (f : Face) (b c : Bool) → isActive f ≡ b → isLoaded f ≡ c → among ActivationSeed (fld CID (f .front .fixed .cid) ∷ readFields f) ≡ not b
-seed-among f false c e l = rw e refl
-seed-among f true false e l = rw (e, l) refl
-seed-among f true true e l = rw (e, l) refl
-
-seed-first : (f : Face) → isActive f ≡ false → firstOf ActivationSeed (fld CID (f .front .fixed .cid) ∷ readFields f) ≡ f .front .fixed .seed
-seed-first f e = rw e refl
 
 module _ (sh : Sheet) (c : Card) (h : History) (i : Fits sh c h) (t : Call) where
   abbrev q : List ℕ
@@ -238,22 +205,6 @@ module _ (sh : Sheet) (c : Card) (h : History) (i : Fits sh c h) (t : Call) wher
       (entitled checkWallet 2 false refl (λ e. clash e refl) (λ e. clash e refl) (loaded (checkWallet .needs) _ (p .allows) refl refl) p)
       (λ l. asked (question 3 (i .inv .number l) (i .inv .fixed l .curve) (val Challenge v ∷ salt d ∷ []) ∷ keyQuestions))
 
-  -- an activation: the issuer's word on CID, seed and Reset_PIN1
-  asleep-face : eqb (active sh h) 1 ≡ false → isActive f ≡ false
-  asleep-face e = ap (λ (g : Flags). eqb (g .active) 1) (i .inv .flags) ∙ e
-
-  waking : Passed activateCard m f v → Waking sh h v
-  waking p = record { asleep = awake (i .inv) (not-true (isActive f) (p .conditions)); pin1 = rw (← i .inv .codes) (p .pin1); fields = p .fields }
-
-  same-wake : asked (activateCard .questions f v d) ≡ asked (wakeQuestions sh h v)
-  same-wake =
-      λ n.
-      let x = i .inv .fixed n in
-      asked (question 6 (i .inv .number n) (x .curve) (val ActivationSignature v ∷ x .cid ∷ x .seed ∷ val ResetPIN1 v ∷ []) ∷ [])
-
-  wake-due : Passed activateCard m f v → Asks (Waking sh h v) (wakeQuestions sh h v) (asked (activateCard .questions f v d))
-  wake-due p = due (waking p) same-wake
-
   -- the kinds that are asked
   kinds-by : allKinds (mayAsk (ins q) (status sh h)) (xs c q d) ≡ true
   kinds-by =
@@ -320,33 +271,12 @@ module _ (sh : Sheet) (c : Card) (h : History) (i : Fits sh c h) (t : Call) wher
         bytes = sign-bytes (w .0) ∙ ap (signResponse sh (tap q r ∷ h)) (s .last);
       }
 
-  -- the card was Empty, so READ_CARD tells no more of it
-  wake-bytes : did ActivateCard (tap q r) ≡ true → f .front .wallet .status ≡ 1 → r ≡ wakeResponse sh h
-  unfolding done wakeBytes
-  wake-bytes e s =
-      let y = did-activate (tap q r) e in
-      let b = carried-by (y .0) in
-      let one : wakeBytes f ≡ wakeResponse sh h =
-      λ n.
-      let x = i .inv .fixed n in
-      written (fld CID (x .cid) ∷ fld Status (be1 (s n)) ∷ fld CurveID (curveName (x .curve)) ∷ fld SignedHashes (be4 (i .inv .total n)) ∷ [])
-      ++ be2 swProcessCompleted in
-      ap (λ z. z .response) (b .isDone) ∙ ap (λ j. done (row j) m f v d a .response) (y .1) ∙ wake-says m f v d a s ∙ one
-
   woken :
       (x : List ℕ) → (questionsRoom ≤ length (t .buffers .page) → x ≡ asked (xs c q d)) → did ActivateCard (tap q r) ≡ true → Woken sh h (tap q r) t x
   woken x hx e =
       let y = did-activate (tap q r) e in
-      let b = carried-by (y .0) in
-      let p = waking (subst (λ j. Passed (row j) m f v) (y .1) (b .passed)) in
-      record {
-        isDue = p;
-        questions = λ u. hx u ∙ (ap asked (b .isAsked ∙ ap (λ j. row j .questions f v d) (y .1)) ∙ same-wake);
-        answers =
-            said-yes f v d a (subst (λ j. shaped (row j .questions f v d) a ≡ true) (y .1) (b .shape))
-            (subst (λ j. row j .confirmed a ≡ true) (y .1) (b .yes));
-        bytes = wake-bytes e (i .inv .status ∙ i .inv .asleep (p .asleep));
-      }
+      let w = woke sh f (c .codes) h (i .inv) v d a (subst (λ j. Carried (row j) m f v d a (saidTo c q d a) (xs c q d)) (y .1) (carried-by (y .0))) in
+      record { isDue = w .isDue; questions = λ u. hx u ∙ w .questions; answers = w .answers; bytes = w .bytes }
 
   -- what READ_CARD tells of the seed
   seed-by :
@@ -360,13 +290,13 @@ module _ (sh : Sheet) (c : Card) (h : History) (i : Fits sh c h) (t : Call) wher
             ∙ ap (λ j. among ActivationSeed (fieldsOf (row j) (row j .next f v a) v d a)) (y .1)
             ∙ seed-among f (isActive f) (isLoaded f) refl refl
             ∙ ap not (sym (awake (i .inv) refl)),
-        λ o. val-by ActivationSeed (y .0) ∙ tells ActivationSeed ∙ seed-first f (asleep-face o) ∙ ap (λ x. x .seed) (i .inv .fixed),
+        λ o. val-by ActivationSeed (y .0) ∙ tells ActivationSeed ∙ seed-first f (asleep-face sh f (c .codes) h (i .inv) o) ∙ ap (λ x. x .seed) (i .inv .fixed),
       )
 
   -- a card that is not activated: its three commands, and its one kind
   sleeps-by : eqb (active sh h) 1 ≡ false → (accepted r ≡ true → whileAsleep (ins q) ≡ true) × (allKinds isWakeKind (xs c q d) ≡ true)
   sleeps-by e =
-      let o = asleep-face e in
+      let o = asleep-face sh f (c .codes) h (i .inv) e in
       let by : Passed (row k) m f v → Sleeper k = λ p. sleeper k (or-other (row k .needs .asleep) (isActive f) (p .awake) o) in
       let may : Passed (row k) m f v → allKinds isWakeKind (row k .questions f v d) ≡ true = λ p. by p .kinds f v d in (
         λ u. ap whileAsleep (listed-ins q (lists m f q d a u)) ∙ by (carried-by u .passed) .ins,
@@ -396,7 +326,7 @@ module _ (sh : Sheet) (c : Card) (h : History) (i : Fits sh c h) (t : Call) wher
     check-asks e = (keyQuestions, some (Asks _ _) (nothing refl) (asks-by CheckWallet _ _ (by-ins CheckWallet refl q e) check-due))
 
     wake-asks : ins q ≡ code ActivateCard → Asks (Waking sh h v) (wakeQuestions sh h v) x
-    wake-asks e = some (Asks _ _) (nothing refl) (asks-by ActivateCard _ _ (by-ins ActivateCard refl q e) wake-due)
+    wake-asks e = some (Asks _ _) (nothing refl) (asks-by ActivateCard _ _ (by-ins ActivateCard refl q e) (wake-due sh f (c .codes) h (i .inv) v d a))
 
     posing : (p : ℕ → Bool) → allKinds p (xs c q d) ≡ true → Poses p x
     unfolding asked eachAsked joined
