@@ -60,8 +60,11 @@ class MadeUp(Provider):
     """Keys and signatures of the right shape that no curve knows. It needs nothing, and is enough where nobody verifies them.
 
     A key counts upwards from the wallet number. A signature is the message with its bytes summed into 64 places, so that another
-    message mostly has another one.
+    message mostly has another one. On a confirmation the issuer's key is another: it puts `transaction` behind the message, so that no
+    note passes for one.
     """
+
+    ISSUER = {ISSUER_SIGNED: b"", ISSUER_CONFIRMED: b"transaction"}
 
     def answer(self, questions: List[Question]) -> bytes:
         return b"".join(map(self.one, questions))
@@ -69,8 +72,8 @@ class MadeUp(Provider):
     def one(self, question: Question) -> bytes:
         if question.kind == MAKE_KEY:
             return self.key(question.wallet_number, question.curve)
-        if question.kind in (ISSUER_SIGNED, ISSUER_CONFIRMED):
-            return bytes([self.signature(question.message[SIGNATURE:]) == question.message[:SIGNATURE]])
+        if question.kind in self.ISSUER:
+            return bytes([self.signature(question.message[SIGNATURE:] + self.ISSUER[question.kind]) == question.message[:SIGNATURE]])
         return self.signature(question.message)
 
     @staticmethod
@@ -88,4 +91,4 @@ class MadeUp(Provider):
 
     def confirm(self, cid: bytes, activation_seed: bytes, reset_pin1: bool) -> bytes:
         """The issuer's signature on a confirmation."""
-        return self.signature(confirmation_message(cid, activation_seed, reset_pin1))
+        return self.signature(confirmation_message(cid, activation_seed, reset_pin1) + self.ISSUER[ISSUER_CONFIRMED])

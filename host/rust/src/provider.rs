@@ -7,6 +7,7 @@ use std::io::Read;
 
 const HEAD: usize = 6;
 const SIGNATURE: usize = 64;
+const TRANSACTION: &[u8] = b"transaction";
 
 #[derive(Clone, Copy, Debug, PartialEq, Eq)]
 pub enum Kind {
@@ -62,7 +63,8 @@ pub(crate) fn questions_of<'a>(mut asked: &'a [u8], cid: &'a [u8]) -> Vec<Questi
 /// Keys and signatures of the right shape that no curve knows. It needs nothing, and is enough where nobody verifies them.
 ///
 /// A key counts upwards from the wallet number. A signature is the message with its bytes summed into 64 places, so that another
-/// message mostly has another one. The draws are the same in every run: 32 times the number of the tap.
+/// message mostly has another one. On a confirmation the issuer's key is another: it puts `transaction` behind the message, so that no
+/// note passes for one. The draws are the same in every run: 32 times the number of the tap.
 #[derive(Clone, Debug, Default)]
 pub struct MadeUp {
     taps: u8,
@@ -85,7 +87,13 @@ impl MadeUp {
 
     /// The issuer's signature on a confirmation.
     pub fn confirm(cid: &[u8], activation_seed: &[u8], reset_pin1: bool) -> Vec<u8> {
-        MadeUp::signature(&[cid, activation_seed, &[reset_pin1.into()]].concat())
+        MadeUp::signature(&[cid, activation_seed, &[reset_pin1.into()], TRANSACTION].concat())
+    }
+
+    /// Whether the issuer signed the message, under the key that puts this behind it.
+    fn signed(question: &Question, key: &[u8]) -> Vec<u8> {
+        let (signature, message) = question.message.split_at(SIGNATURE);
+        vec![u8::from(MadeUp::signature(&[message, key].concat()) == signature)]
     }
 
     fn key(wallet_number: u16, curve: Curve) -> Vec<u8> {
@@ -101,10 +109,8 @@ impl Provider for MadeUp {
     fn answer(&mut self, questions: &[Question]) -> Vec<u8> {
         let one = |question: &Question| match question.kind {
             Kind::MakeKey => MadeUp::key(question.wallet_number, question.curve),
-            Kind::IssuerSigned | Kind::IssuerConfirmed => {
-                let (signature, message) = question.message.split_at(SIGNATURE);
-                vec![u8::from(MadeUp::signature(message) == signature)]
-            }
+            Kind::IssuerSigned => MadeUp::signed(question, b""),
+            Kind::IssuerConfirmed => MadeUp::signed(question, TRANSACTION),
             _ => MadeUp::signature(question.message),
         };
         questions.iter().flat_map(one).collect()

@@ -36,7 +36,18 @@ fn the_issuer_signs_one_note() {
 #[test]
 fn the_issuer_confirms_one_activation() {
     let signature = MadeUp::confirm(b"12345678", b"sixteen  letters", true);
-    assert_eq!(signature, [b"12345678sixteen  letters\x01".to_vec(), vec![0; 39]].concat());
+    assert_eq!(signature, [b"12345678sixteen  letters\x01transaction".to_vec(), vec![0; 28]].concat());
     let asked = |message: &[u8]| answer(Kind::IssuerConfirmed, 0, Curve::Secp256k1, &[&signature, message].concat());
     assert_eq!((asked(b"12345678sixteen  letters\x01"), asked(b"12345678sixteen  letters\0")), (vec![1], vec![0]));
+}
+
+#[test]
+fn no_note_passes_for_a_confirmation_and_no_confirmation_for_a_note() {
+    let message = b"12345678sixteen  letters\x01";
+    let note = MadeUp::issue(b"12345678", b"sixteen  letters\x01", None);
+    let confirmation = MadeUp::confirm(b"12345678", b"sixteen  letters", true);
+    for (signature, signed, confirmed) in [(note, 1, 0), (confirmation, 0, 1)] {
+        let asked = |kind| answer(kind, 0, Curve::Secp256k1, &[&signature[..], message].concat());
+        assert_eq!((asked(Kind::IssuerSigned), asked(Kind::IssuerConfirmed)), (vec![signed], vec![confirmed]));
+    }
 }
