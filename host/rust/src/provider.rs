@@ -48,8 +48,7 @@ pub trait Provider {
 }
 
 pub(crate) fn questions_of<'a>(mut asked: &'a [u8], cid: &'a [u8]) -> Vec<Question<'a>> {
-    const KINDS: [Kind; 6] =
-        [Kind::MakeKey, Kind::SignHash, Kind::HashAndSign, Kind::CardSign, Kind::IssuerSigned, Kind::IssuerConfirmed];
+    const KINDS: [Kind; 6] = [Kind::MakeKey, Kind::SignHash, Kind::HashAndSign, Kind::CardSign, Kind::IssuerSigned, Kind::IssuerConfirmed];
     let mut questions = Vec::new();
     while let [kind, high, low, curve, ..] = *asked {
         let end = HEAD + number(&asked[4..HEAD]) as usize;

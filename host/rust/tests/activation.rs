@@ -25,7 +25,10 @@ fn hex(bytes: &[u8]) -> String {
 fn a_card_that_is_not_activated_tells_its_seed_and_makes_no_wallet() {
     let mut card = posted();
     let codes = card.codes();
-    assert_eq!(hex(&card.tap(&read_card(&codes)).unwrap().bytes), "0108AA000000000166750201013A01003B1000112233445566778899AABBCCDDEEFF9000");
+    assert_eq!(
+        hex(&card.tap(&read_card(&codes)).unwrap().bytes),
+        "0108AA000000000166750201013A01003B1000112233445566778899AABBCCDDEEFF9000"
+    );
     assert!(card.tap(&read_issuer_data(&codes)).unwrap().ok());
     let refused = card.tap(&create_wallet(&codes)).unwrap();
     assert_eq!((refused.word, refused.reason), (0x6985, 8));
