@@ -62,7 +62,7 @@ left s k y at = notesFrom (256 - k) (k + 1) y (drop at s)
 module _ (s : List ℕ) (d : List Note) (k : ℕ) (y : Note) (at : ℕ) where
   pub read-start : d ≡ replicate 256 blank → y ≡ blank → readAnswer s ≡ answerFrom d 0 (left s 0 y 0)
   unfolding readAnswer meaning
-  read-start e f = sym (rw (e, f))
+  read-start e f = λ i. answerFrom (sym e i) 0 (notesFrom 256 1 (sym f i) s)
 
   pub read-bad : at < length s → k ≤ 256 → (ltb k 256 && follows y (noteAt (drop at s))) ≡ false
       → answerFrom d k (left s k y at) ≡ answerOf (BadLine 1 (k + 1)) (replicate 256 blank)

@@ -60,7 +60,7 @@ pub wrote-as : {d : List ℕ} {at : ℕ} {v w d′ : List ℕ} {r : ℕ} → v �
 wrote-as {d} {at} {d′ = d′} {r} e x = subst (λ (u : List ℕ). Wrote d at u d′ r) e x
 
 -- HOW MANY DIGITS a number has
-pub more-digits : (k m : ℕ) → ((n : ℕ) → n < m → length (decimalOf n) ≤ k) → (n : ℕ) → n < 10 * m → length (decimalOf n) ≤ k + 1
+more-digits : (k m : ℕ) → ((n : ℕ) → n < m → length (decimalOf n) ≤ k) → (n : ℕ) → n < 10 * m → length (decimalOf n) ≤ k + 1
 more-digits k m h n p = go (decLt n 10)
   where
     go : Dec (n < 10) → length (decimalOf n) ≤ k + 1
@@ -73,10 +73,10 @@ more-digits k m h n p = go (decLt n 10)
 one-digit : (n : ℕ) → n < 10 → length (decimalOf n) ≤ 1
 one-digit n h = rw (decimal-small n h) (omega arith)
 
-three-digits : (n : ℕ) → n < 1000 → length (decimalOf n) ≤ 3
+pub three-digits : (n : ℕ) → n < 1000 → length (decimalOf n) ≤ 3
 three-digits = more-digits 2 100 (more-digits 1 10 one-digit)
 
-five-digits : (n : ℕ) → n < 100000 → length (decimalOf n) ≤ 5
+pub five-digits : (n : ℕ) → n < 100000 → length (decimalOf n) ≤ 5
 five-digits = more-digits 4 10000 (more-digits 3 1000 three-digits)
 
 six-digits : (n : ℕ) → n < 1000000 → length (decimalOf n) ≤ 6

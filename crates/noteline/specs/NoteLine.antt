@@ -1,5 +1,5 @@
 -- THE LINE OF A NOTE, Ask 8: "one record a line, fields parted by tabs, numbers decimal without leading zeros". Every definition is total. Assumes nothing.
-use mathlib.Core.Bool.{Bool, cond, _&&_}
+use mathlib.Core.Bool.{cond, _&&_}
 use mathlib.Core.List.{List, [], _∷_}
 use Prim.Native.Nat.{ℕ}
 use lib.Dec.{ltb}

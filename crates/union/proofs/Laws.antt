@@ -4,7 +4,7 @@
 --     step             a turn: what is left of the two lists side by side is the pair picked and what is left after it
 --     lowest-..        the lowest clash, by the pair that comes next.        filled-..     what a run of notes put leaves
 use mathlib.Core.Path.{_≡_, refl, sym, _∙_, ap, subst}
-use mathlib.Core.Bool.{Bool, true, false, cond}
+use mathlib.Core.Bool.{Bool, true, false}
 use mathlib.Core.List.{List, [], _∷_}
 use Prim.Native.Nat.{ℕ, _+_, _≤_, _<_}
 use native.Mathlib.Omega.{arith}

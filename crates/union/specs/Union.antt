@@ -1,5 +1,5 @@
 -- TWO BOOKS JOINED, Ask 8: side by side, what both have in other words, the union, the outcome. Assumes nothing.
-use mathlib.Core.Bool.{Bool, true, false, cond, not}
+use mathlib.Core.Bool.{Bool, false, cond, not}
 use mathlib.Core.List.{List, [], _∷_}
 use Prim.Native.Nat.{ℕ, _+_}
 use lib.Dec.{ltb}

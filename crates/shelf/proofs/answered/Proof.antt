@@ -1,6 +1,5 @@
 use mathlib.Core.Path.{ap}
 use Prim.Native.Nat.{ℕ}
-use Rattle.shelf.specs.declared.Answer.{Answer}
 use Rattle.shelf.specs.Outcome.{answerOf}
 use Rattle.shelf.proofs.answered.Statement.{statement}
 use Rattle.shelf.proofs.answered.Tie as tie

@@ -1,11 +1,10 @@
 use mathlib.Core.Path.{_≡_, sym, _∙_, ap}
-use mathlib.Core.Bool.{Bool, not}
-use Prim.Native.Nat.{ℕ, _+_, _-_, _≤_}
+use Prim.Native.Nat.{_+_, _-_, _≤_}
 use native.Mathlib.Omega.{arith}
-use lib.ListN.{length, take, drop, getD}
+use lib.ListN.{length, take, drop}
 use borrow.Author.Tests.{not-true, not-false}
 use Rattle.notes.specs.declared.Note.{Note}
-use Rattle.notes.specs.Notes.{blank, follows}
+use Rattle.notes.specs.Notes.{follows}
 use Rattle.shelf.specs.Shelf.{badFrom, firstBad}
 use Rattle.shelf.proofs.Laws.{bad-here, bad-on, bad-none}
 use Rattle.shelf.proofs.bad_among.Statement.{statement}

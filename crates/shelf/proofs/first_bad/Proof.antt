@@ -1,9 +1,9 @@
 use mathlib.Core.Path.{_≡_, sym, _∙_, ap, subst}
 use Prim.Native.Nat.{ℕ, _≤_}
 use native.Mathlib.Omega.{arith}
-use lib.ListN.{length, take}
+use lib.ListN.{length}
 use borrow.Author.Tests.{lt-ltb, le-ltb, eq-eqb, ne-eqb}
-use Rattle.shelf.specs.Shelf.{firstBad, badOf, least}
+use Rattle.shelf.specs.Shelf.{firstBad, badOf}
 use Rattle.shelf.proofs.Laws.{least-right, take-cap}
 use Rattle.shelf.proofs.first_bad.Statement.{statement}
 use Rattle.shelf.proofs.first_bad.Tie as tie

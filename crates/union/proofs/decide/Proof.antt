@@ -1,4 +1,3 @@
-use mathlib.Core.Path.{_∙_, sym}
 use borrow.Author.Tests.{lt-ltb, le-ltb}
 use Rattle.union.specs.Union.{decided}
 use Rattle.union.proofs.decide.Statement.{statement}

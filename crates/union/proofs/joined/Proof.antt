@@ -1,9 +1,8 @@
-use mathlib.Core.Path.{_≡_, _∙_, ap, subst, sym}
+use mathlib.Core.Path.{_≡_, _∙_, subst, sym}
 use Prim.Native.Nat.{ℕ, _≤_}
 use native.Mathlib.Omega.{arith}
-use lib.ListN.{length, take}
+use lib.ListN.{length}
 use Rattle.shelf.specs.Shelf.{shelfOf}
-use Rattle.shelf.specs.Outcome.{answerOf}
 use Rattle.shelf.proofs.Laws.{least-right, take-cap}
 use Rattle.union.specs.Union.{aside, merged, lowest}
 use Rattle.union.proofs.Laws.{answered}

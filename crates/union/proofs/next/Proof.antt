@@ -1,9 +1,9 @@
 use mathlib.Core.Path.{_∙_, sym, ap}
-use mathlib.Core.Bool.{Bool, not}
+use mathlib.Core.Bool.{not}
 use Prim.Native.Nat.{_+_}
 use Rattle.notes.specs.declared.Note.{Note}
 use Rattle.notes.specs.declared.Order.the-variants.{Before, Same, After}
-use Rattle.union.specs.Union.{by, noteIn, clashes, First, Second, Both, picked}
+use Rattle.union.specs.Union.{by, noteIn, clashes, First, Second, picked}
 use Rattle.union.proofs.Laws.{pick-second, pick-first, pick-told}
 use borrow.Author.Needs.{needs}
 use Rattle.union.proofs.next.Statement.{statement}
