@@ -1,0 +1,9 @@
+pub mod Order
+pub mod Books
+pub mod Sides
+pub mod Members
+pub mod Clashes
+pub mod Outcomes
+pub mod Means
+pub mod Theorems
+pub mod Grouping

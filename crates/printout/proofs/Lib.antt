@@ -1,0 +1,4 @@
+pub mod Refusals
+pub mod Theorems
+pub mod Fits
+pub mod Tells

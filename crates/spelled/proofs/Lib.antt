@@ -1,0 +1,10 @@
+pub mod Decimal
+pub mod Line
+pub mod Spelling
+pub mod Steps
+pub mod Book
+pub mod Sizes
+pub mod Front
+pub mod Bad
+pub mod Bytes
+pub mod Examples
