@@ -22,7 +22,7 @@ CODE = re.compile(r"^```(?!console)(\w+)\n(.*?)^```$", re.S | re.M)
 SUFFIX = {"c": "*.c", "cpp": "*.cc", "java": "*.java", "python": "*.py", "rust": "*.rs"}
 COMMAND = re.compile(r"^\$ (.*)\n((?:(?!\$ ).*\n)*)", re.M)
 ENDED = re.compile(rf"(.*?){MARK} (\d+)\n", re.S)
-COMPLAINT = re.compile(r"^(tap|reader|play|host/\w+): .*\n\Z", re.M)
+COMPLAINT = re.compile(r"^(tap|reader|play|handover|host/\w+): .*\n\Z", re.M)
 STATUS = "echo $?"
 
 

@@ -1,4 +1,5 @@
-"""What the tests of the host share: named checks, the programs of target/host, ./play and its memory, cards in a folder of their own."""
+"""What the tests of the host share: named checks, the programs of target/host, ./play and its memory, ./handover, cards in a folder of
+their own."""
 
 import contextlib
 import fcntl
@@ -51,6 +52,15 @@ def play(*words, **more) -> subprocess.CompletedProcess:
 def build_player() -> None:
     """The first play proves and builds the player, takes minutes and says so; afterwards ./play prints the recording's lines alone."""
     subprocess.run([str(ROOT / "play")], input=b"", stdout=subprocess.DEVNULL)
+
+
+def handover(*words, **more) -> subprocess.CompletedProcess:
+    return subprocess.run([ROOT / "handover", *words], capture_output=True, timeout=600, **more)
+
+
+def build_joiner() -> None:
+    """As build_player, for the program that ./handover runs."""
+    subprocess.run([ROOT / "handover", "--check", "/dev/null"], stdout=subprocess.DEVNULL)
 
 
 @contextlib.contextmanager
