@@ -3,14 +3,14 @@ use mathlib.Core.List.{List}
 use Prim.Native.Nat.{ℕ}
 use lib.ListN.{length}
 use Rattle.notes.specs.declared.Note.{Note}
-use Rattle.shelf.specs.Shelf.{mixed, least}
+use Rattle.shelf.specs.Shelf.{most, mixed, least}
 use Rattle.shelf.specs.Outcome.{afterOf}
 use Rattle.union.specs.Union.{merged, joinOf}
 use Rattle.booktext.specs.BookText.{meaning, notesOf, readOf, textOf, writeOf}
 
 -- the first n of a are laid into l, as far as both have places; the rest of l is as it was
 unfoldable pub laidOf : List Note → List Note → ℕ → List Note
-laidOf l a n = mixed (least (least n 256) (length l)) a l
+laidOf l a n = mixed (least (least n most) (length l)) a l
 
 -- the lent list p after a text is read: its notes in front and the rest as it was, or all as it was
 unfoldable pub readInto : List ℕ → List Note → List Note

@@ -1,6 +1,7 @@
 // The handover book, Ask 8, as a lent list of notes. Nothing is asked of the caller: a list that is no book is refused. On any answer
 // but `Done` all that is lent is as it was.
 use notes::Note;
+use shelf::MOST;
 use shelf::Outcome;
 use shelf::Result;
 ghost use mathlib.Core.Path.{_≡_};
@@ -12,10 +13,10 @@ ghost use Rattle.booktext.specs.BookText.{readOf, writeOf};
 ghost use Rattle.book.specs.Book.{laidOf, readInto, writtenInto, joinedInto};
 
 // At most 256 notes of a lent list, by value.
-fn taken(list: &[Note]) -> [Note; 256]
+fn taken(list: &[Note]) -> [Note; MOST]
     ensures { λ r. ⌜ r ≡ takenOf (now (list .entry)) ⌝ }
 {
-    let n = shelf::lesser(list.len(), 256);
+    let n = shelf::lesser(list.len(), MOST);
     let mut out = shelf::blanks();
     let mut i: usize = 0;
     while i < n {
@@ -26,10 +27,10 @@ fn taken(list: &[Note]) -> [Note; 256]
 }
 
 // The first n of an array are laid into a lent list; the rest of it is as it was.
-fn lay(list: &mut [Note], a: [Note; 256], n: usize)
+fn lay(list: &mut [Note], a: [Note; MOST], n: usize)
     ensures { λ _. ⌜ now (list .exit) ≡ laidOf (now (list .entry)) a n ⌝ }
 {
-    let m = shelf::lesser(shelf::lesser(n, 256), list.len());
+    let m = shelf::lesser(shelf::lesser(n, MOST), list.len());
     let mut i: usize = 0;
     while i < m {
         list[i] = shelf::got(a, i);

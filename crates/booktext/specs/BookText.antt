@@ -48,13 +48,13 @@ textOf l = joined (bookParts l)
 -- READ: the outcome without a look at the room, with the notes in an array; and with it
 unfoldable pub answerFrom : List Note → ℕ → Meaning → Answer
 answerFrom d k (Book l) = answerOf (Done (filled d k l .count)) (filled d k l .notes)
-answerFrom d k (BadAt j) = answerOf (BadLine 1 j) (replicate 256 blank)
+answerFrom d k (BadAt j) = answerOf (BadLine 1 j) (replicate most blank)
 
 unfoldable pub readAnswer : List ℕ → Answer
-readAnswer s = answerFrom (replicate 256 blank) 0 (meaning s)
+readAnswer s = answerFrom (replicate most blank) 0 (meaning s)
 
 unfoldable pub roomyOf : Answer → ℕ → Answer
-roomyOf r places = cond (ltb places 256) (answerOf NoRoom (r .notes)) r
+roomyOf r places = cond (ltb places most) (answerOf NoRoom (r .notes)) r
 
 unfoldable pub notesOf : Meaning → List Note
 notesOf (Book l) = l
@@ -66,7 +66,7 @@ readOutcome (BadAt k) = BadLine 1 k
 
 -- "a list for notes with fewer than 256 places", then the bad line
 unfoldable pub readOf : ℕ → List ℕ → Outcome
-readOf places s = cond (ltb places 256) NoRoom (readOutcome (meaning s))
+readOf places s = cond (ltb places most) NoRoom (readOutcome (meaning s))
 
 -- WRITTEN: "a buffer for text below 20,480 bytes", then the first bad record
 abbrev pub textRoom : ℕ

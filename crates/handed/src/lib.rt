@@ -1,5 +1,6 @@
 // What handover prints for two texts, Ask 8: the joined book, or one line that no book begins with.
 use shelf::Answer;
+use shelf::MOST;
 use shelf::Outcome;
 use text::lines;
 ghost use mathlib.Core.Path.{_≡_};
@@ -91,7 +92,7 @@ fn join(a: Answer, b: Answer) -> Answer
         shelf::count_in(a),
         shelf::notes_in(b),
         shelf::count_in(b),
-        256,
+        MOST,
     );
     let first = line_in(shelf::outcome_in(a));
     let second = line_in(shelf::outcome_in(b));

@@ -37,11 +37,11 @@ mixed k xs d = take k xs ++ drop k d
 
 -- at most 256 notes of a list, blanks after them
 unfoldable pub takenOf : List Note → List Note
-takenOf l = mixed (least (length l) 256) l (replicate 256 blank)
+takenOf l = mixed (least (length l) most) l (replicate most blank)
 
 -- the first bad record of n, whose first 256 are a
 unfoldable pub badOf : List Note → ℕ → ℕ
-badOf a n = cond (eqb (firstBad (take n a)) 0) (cond (ltb 256 n) 257 0) (firstBad (take n a))
+badOf a n = cond (eqb (firstBad (take n a)) 0) (cond (ltb most n) 257 0) (firstBad (take n a))
 
 -- notes put one after the other from the place k on; those past the end are counted only
 unfoldable pub filled : List Note → ℕ → List Note → Shelf
@@ -49,4 +49,4 @@ filled d k [] = record { notes = d; count = k }
 filled d k (x ∷ xs) = filled (set d k x) (k + 1) xs
 
 unfoldable pub shelfOf : List Note → Shelf
-shelfOf l = filled (replicate 256 blank) 0 l
+shelfOf l = filled (replicate most blank) 0 l

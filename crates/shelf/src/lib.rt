@@ -4,7 +4,7 @@ ghost use mathlib.Core.Path.{_≡_};
 ghost use Prim.Native.Nat.{_≤_};
 ghost use lib.ListN.{getD, set, replicate, take};
 ghost use Rattle.notes.specs.Notes.{blank};
-ghost use Rattle.shelf.specs.Shelf.{least, firstBad, badOf};
+ghost use Rattle.shelf.specs.Shelf.{most, least, firstBad, badOf};
 ghost use Rattle.shelf.specs.Outcome.{countOf, answerOf, numbersOf};
 
 // "at most 256 notes"
@@ -29,39 +29,39 @@ pub struct Result {
 
 // At most 256 notes, and how many there were to put.
 pub struct Shelf {
-    pub notes: [Note; 256],
+    pub notes: [Note; MOST],
     pub count: usize,
 }
 
 // An outcome, and the notes that it leaves, `count` of them.
 pub struct Answer {
     pub outcome: Outcome,
-    pub notes: [Note; 256],
+    pub notes: [Note; MOST],
     pub count: usize,
 }
 
-pub fn blanks() -> [Note; 256]
-    ensures { λ r. ⌜ r ≡ replicate 256 blank ⌝ }
+pub fn blanks() -> [Note; MOST]
+    ensures { λ r. ⌜ r ≡ replicate most blank ⌝ }
 {
-    [notes::nothing(); 256]
+    [notes::nothing(); MOST]
 }
 
 // A write past the end changes nothing.
-pub fn put(a: [Note; 256], i: usize, note: Note) -> [Note; 256]
+pub fn put(a: [Note; MOST], i: usize, note: Note) -> [Note; MOST]
     ensures { λ r. ⌜ r ≡ set a i note ⌝ }
 {
     let mut out = a;
-    if i < 256 {
+    if i < MOST {
         out[i] = note;
         return out;
     }
     out
 }
 
-pub fn got(a: [Note; 256], i: usize) -> Note
+pub fn got(a: [Note; MOST], i: usize) -> Note
     ensures { λ r. ⌜ r ≡ getD a i blank ⌝ }
 {
-    if i < 256 {
+    if i < MOST {
         return a[i];
     }
     notes::nothing()
@@ -76,8 +76,8 @@ pub fn lesser(a: usize, b: usize) -> usize
     b
 }
 
-fn bad_among(a: [Note; 256], n: usize) -> u16
-    requires { ⌜ n ≤ 256 ⌝ }
+fn bad_among(a: [Note; MOST], n: usize) -> u16
+    requires { ⌜ n ≤ most ⌝ }
     ensures { λ r. ⌜ r ≡ firstBad (take n a) ⌝ }
 {
     let mut last = notes::nothing();
@@ -94,12 +94,12 @@ fn bad_among(a: [Note; 256], n: usize) -> u16
 }
 
 // The place of the first note that may not stand in a book, of n notes whose first 256 these are; 0 where there is none.
-pub fn first_bad(a: [Note; 256], n: usize) -> u16
+pub fn first_bad(a: [Note; MOST], n: usize) -> u16
     ensures { λ r. ⌜ r ≡ badOf a n ⌝ }
 {
-    let bad = bad_among(a, lesser(n, 256));
+    let bad = bad_among(a, lesser(n, MOST));
     if bad == 0 {
-        if 256 < n {
+        if MOST < n {
             return 257;
         }
     }
@@ -121,7 +121,7 @@ fn count(o: Outcome) -> usize
     }
 }
 
-pub fn answered(o: Outcome, a: [Note; 256]) -> Answer
+pub fn answered(o: Outcome, a: [Note; MOST]) -> Answer
     ensures { λ r. ⌜ r ≡ answerOf o a ⌝ }
 {
     Answer {
@@ -137,7 +137,7 @@ pub fn outcome_in(r: Answer) -> Outcome
     r.outcome
 }
 
-pub fn notes_in(r: Answer) -> [Note; 256]
+pub fn notes_in(r: Answer) -> [Note; MOST]
     ensures { λ a. ⌜ a ≡ r .notes ⌝ }
 {
     r.notes

@@ -11,7 +11,7 @@ use Rattle.notes.specs.Notes.{blank, orderOf, alikeOf}
 use Rattle.shelf.specs.declared.Answer.{Answer}
 use Rattle.shelf.specs.declared.Outcome.{Outcome}
 use Rattle.shelf.specs.declared.Outcome.the-variants.{Done, BadLine, Clash, Full, NoRoom}
-use Rattle.shelf.specs.Shelf.{firstBad, badOf, shelfOf}
+use Rattle.shelf.specs.Shelf.{most, firstBad, badOf, shelfOf}
 use Rattle.shelf.specs.Outcome.{answerOf}
 use Rattle.union.specs.declared.Pick.{Pick}
 use Rattle.union.specs.declared.Match.{Match}
@@ -66,7 +66,7 @@ lowest (p ∷ ps) = cond (clashes p) (Differ (noteIn p .tablet) (noteIn p .numbe
 
 -- THE OUTCOME, "Refusals, in this order": no room in the lent list, a bad line of the first book, of the second, a clash, more than 256 notes
 unfoldable pub fittingOf : ℕ → Outcome
-fittingOf total = cond (ltb 256 total) Full (Done total)
+fittingOf total = cond (ltb most total) Full (Done total)
 
 unfoldable pub matchedOf : Match → ℕ → Outcome
 matchedOf Agree total = fittingOf total
@@ -74,7 +74,7 @@ matchedOf (Differ t n) total = Clash t n
 
 unfoldable pub decided : ℕ → ℕ → ℕ → Match → ℕ → Outcome
 decided places first second found total =
-    cond (ltb places 256) NoRoom
+    cond (ltb places most) NoRoom
     (cond (ltb 0 first) (BadLine 1 first)
     (cond (ltb 0 second) (BadLine 2 second)
     (matchedOf found total)))

@@ -2,12 +2,13 @@
 use notes::Note;
 use notes::Order;
 use shelf::Answer;
+use shelf::MOST;
 use shelf::Outcome;
 use shelf::Shelf;
 ghost use mathlib.Core.Path.{_≡_};
 ghost use Prim.Native.Nat.{_≤_};
 ghost use lib.ListN.{take};
-ghost use Rattle.shelf.specs.Shelf.{shelfOf};
+ghost use Rattle.shelf.specs.Shelf.{most, shelfOf};
 ghost use Rattle.union.specs.Union.{aside, merged, lowest, pickOf, fittingOf, matchedOf, decided, joinAnswer};
 
 // Whether the notes that both books have are the same in both; else the lowest that is not.
@@ -24,8 +25,8 @@ struct Pick {
     j: usize,
 }
 
-fn next(a: [Note; 256], i: usize, n: usize, b: [Note; 256], j: usize, m: usize) -> Pick
-    requires { ⌜ (i ≤ 256) × (j ≤ 256) ⌝ }
+fn next(a: [Note; MOST], i: usize, n: usize, b: [Note; MOST], j: usize, m: usize) -> Pick
+    requires { ⌜ (i ≤ most) × (j ≤ most) ⌝ }
     ensures { λ r. ⌜ r ≡ pickOf a i n b j m ⌝ }
 {
     if n <= i {
@@ -68,8 +69,8 @@ fn next(a: [Note; 256], i: usize, n: usize, b: [Note; 256], j: usize, m: usize) 
     }
 }
 
-fn lowest_clash(a: [Note; 256], n: usize, b: [Note; 256], m: usize) -> Match
-    requires { ⌜ (n ≤ 256) × (m ≤ 256) ⌝ }
+fn lowest_clash(a: [Note; MOST], n: usize, b: [Note; MOST], m: usize) -> Match
+    requires { ⌜ (n ≤ most) × (m ≤ most) ⌝ }
     ensures { λ r. ⌜ r ≡ lowest (aside (take n a) (take m b)) ⌝ }
 {
     let mut i = 0;
@@ -89,8 +90,8 @@ fn lowest_clash(a: [Note; 256], n: usize, b: [Note; 256], m: usize) -> Match
     Match::Agree
 }
 
-fn merge(a: [Note; 256], n: usize, b: [Note; 256], m: usize) -> Shelf
-    requires { ⌜ (n ≤ 256) × (m ≤ 256) ⌝ }
+fn merge(a: [Note; MOST], n: usize, b: [Note; MOST], m: usize) -> Shelf
+    requires { ⌜ (n ≤ most) × (m ≤ most) ⌝ }
     ensures { λ r. ⌜ r ≡ shelfOf (merged (take n a) (take m b)) ⌝ }
 {
     let mut out = shelf::blanks();
@@ -114,7 +115,7 @@ fn merge(a: [Note; 256], n: usize, b: [Note; 256], m: usize) -> Shelf
 fn fitting(total: usize) -> Outcome
     ensures { λ r. ⌜ r ≡ fittingOf total ⌝ }
 {
-    if 256 < total {
+    if MOST < total {
         return Outcome::Full;
     }
     Outcome::Done(total as u32)
@@ -132,7 +133,7 @@ fn matched(found: Match, total: usize) -> Outcome
 fn decide(places: usize, first: u16, second: u16, found: Match, total: usize) -> Outcome
     ensures { λ r. ⌜ r ≡ decided places first second found total ⌝ }
 {
-    if places < 256 {
+    if places < MOST {
         return Outcome::NoRoom;
     }
     if 0 < first {
@@ -151,11 +152,11 @@ fn decide(places: usize, first: u16, second: u16, found: Match, total: usize) ->
 }
 
 // The join of n notes, whose first 256 are a, and of m notes, whose first 256 are b, for a list of so many places.
-pub fn joined(a: [Note; 256], n: usize, b: [Note; 256], m: usize, places: usize) -> Answer
+pub fn joined(a: [Note; MOST], n: usize, b: [Note; MOST], m: usize, places: usize) -> Answer
     ensures { λ r. ⌜ r ≡ joinAnswer a n b m places ⌝ }
 {
-    let k = shelf::lesser(n, 256);
-    let l = shelf::lesser(m, 256);
+    let k = shelf::lesser(n, MOST);
+    let l = shelf::lesser(m, MOST);
     let s = merge(a, k, b, l);
     let found = lowest_clash(a, k, b, l);
     let o = decide(
