@@ -79,17 +79,12 @@ fn run_read(places: usize, s: &[u8]) {
     print_answer(booktext::roomy(booktext::read_text(s), places));
 }
 
-// A text from its hex, and how long it is.
-fn unhex(s: &[u8], out: &mut [u8]) -> usize {
-    text::unhex(s, out, 0)
-}
-
 // The two texts of a case, parted by a tab; where there is one, the second is empty.
 fn run_two(word: u8, places: usize, texts: &[u8]) {
     let mut first = [0u8; handed::BOOK_ROOM];
-    let n = unhex(lines::head_to(texts, lines::TAB), &mut first);
+    let n = text::unhex(lines::head_to(texts, lines::TAB), &mut first, 0);
     let mut second = [0u8; handed::BOOK_ROOM];
-    let m = unhex(lines::tail_after(texts, lines::TAB), &mut second);
+    let m = text::unhex(lines::tail_after(texts, lines::TAB), &mut second, 0);
     let a = wire::part(&first, 0, n);
     let b = wire::part(&second, 0, m);
     match word {
