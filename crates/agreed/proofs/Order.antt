@@ -3,13 +3,13 @@ use Prim.Native.Nat.{ℕ, _≤_, _<_}
 use native.Mathlib.Omega.{arith}
 use native.Mathlib.Decide.{decLt}
 use mathlib.Core.Path.{_≡_, refl, sym, ap, ap₂, _∙_, subst}
-use mathlib.Core.Bool.{true, false}
+use mathlib.Core.Bool.{true}
 use borrow.Author.Tests.{ltb-true, lt-ltb, le-ltb}
 use Rattle.wire.proofs.Laws.{both-true}
 use Rattle.notes.specs.declared.Note.{Note}
 use Rattle.notes.specs.declared.Order.{Order}
 use Rattle.notes.specs.declared.Order.the-variants.{Before, Same, After}
-use Rattle.notes.specs.Notes.{blank, byNumber, orderOf, goodOf, textGood}
+use Rattle.notes.specs.Notes.{blank, byNumber, orderOf, goodOf}
 use Rattle.agreed.specs.Agreed.{flipped}
 
 -- what an order says of tablets and numbers
@@ -124,11 +124,7 @@ before-self a e = before-same a a e refl refl
 pub before-both : (a b : Note) → orderOf a b ≡ Before → orderOf b a ≡ Before → ⊥
 before-both a b e k = before-self a (before-trans a b a e k)
 
--- THE BLANK is no good note, and below every good one
-pub blank-bad : goodOf blank ≡ false
-unfolding goodOf blank textGood
-blank-bad = refl
-
+-- THE BLANK is below every good note
 pub blank-below : (x : Note) → goodOf x ≡ true → orderOf blank x ≡ Before
 unfolding goodOf blank
 blank-below x e = is-order blank x Before (go (decLt 0 (x .tablet)))

@@ -13,7 +13,8 @@ use Rattle.wire.specs.Wire.{Wrotes, joined}
 use Rattle.wire.proofs.Laws.{both-true, wrote-none, wrote-append, joined-append, all-run, front}
 use Rattle.text.specs.Lines.{lengthTo, tailAfter, nextLine}
 use Rattle.notes.specs.declared.Note.{Note}
-use Rattle.notes.specs.Notes.{blank, goodOf, follows, isBefore, orderOf}
+use Rattle.notes.specs.Notes.{blank, goodOf, follows}
+use Rattle.notes.proofs.Laws.{follows-good}
 use Rattle.shelf.specs.declared.Outcome.the-variants.{Done, BadLine, NoRoom}
 use Rattle.shelf.specs.Shelf.{badFrom, firstBad, badOf, filled}
 use Rattle.shelf.specs.Outcome.{answerOf, afterOf}
@@ -22,17 +23,17 @@ use Rattle.booktext.specs.BookText.{Meaning, Book, BadAt, also, notesFro
 
 -- READ. What the first line of a text does, where there is one
 module _ (k : ℕ) (y : Note) where
-  none-left : (n : ℕ) → notesFrom n k y [] ≡ Book []
+  pub none-left : (n : ℕ) → notesFrom n k y [] ≡ Book []
   unfolding notesFrom
   none-left zero = refl
   none-left (suc n) = refl
 
-  no-room : (l : List ℕ) → 0 < length l → notesFrom zero k y l ≡ BadAt k
+  pub no-room : (l : List ℕ) → 0 < length l → notesFrom zero k y l ≡ BadAt k
   unfolding notesFrom
   no-room [] h = absurd (omega arith)
   no-room (b ∷ s) h = refl
 
-  first-line : (n : ℕ) (l : List ℕ) → 0 < length l
+  pub first-line : (n : ℕ) (l : List ℕ) → 0 < length l
       → notesFrom (suc n) k y l ≡ cond (follows y (noteAt l)) (also (noteAt l) (notesFrom n (k + 1) (noteAt l) (tailAfter 10 l))) (BadAt k)
   unfolding notesFrom
   first-line n [] h = absurd (omega arith)
@@ -128,10 +129,6 @@ meaning-within s = from-within 256 1 blank s (omega arith)
 unfoldable pub allGood : List Note → Bool
 allGood [] = true
 allGood (x ∷ xs) = goodOf x && allGood xs
-
-follows-good : (y x : Note) → follows y x ≡ true → goodOf x ≡ true
-unfolding follows
-follows-good y x e = both-true (goodOf x) (isBefore (orderOf y x)) e .0
 
 none-bad : (n k : ℕ) (y : Note) (l : List Note) → 1 ≤ k → badFrom n k y l ≡ 0 → allGood l ≡ true
 unfolding badFrom allGood

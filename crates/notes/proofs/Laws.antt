@@ -11,7 +11,7 @@ use lib.Seq.{drop-cons}
 use Rattle.wire.specs.Wire.{alike}
 use Rattle.wire.proofs.Laws.{both-true, alike-same, alike-self}
 use Rattle.notes.specs.declared.Note.{Note}
-use Rattle.notes.specs.Notes.{cleanOf, alikeOf, sameText}
+use Rattle.notes.specs.Notes.{blank, orderOf, isBefore, cleanOf, alikeOf, sameText, textGood, goodOf, follows}
 
 -- A TEXT without tab and line feed, from a place on
 clean-front : (s : List ℕ) (i : ℕ) → i < length s → cleanOf (drop i s) ≡ ((not (eqb (getD s i 0) 9) && not (eqb (getD s i 0) 10)) && cleanOf (drop (i + 1) s))
@@ -53,3 +53,12 @@ alike-note a b e =
 pub note-alike : (a : Note) → alikeOf a a ≡ true
 unfolding alikeOf sameText
 note-alike a = simp (eq-eqb (a .tablet) (a .tablet) refl, eq-eqb (a .number) (a .number) refl, eq-eqb (a .hours) (a .hours) refl, eq-eqb (a .len) (a .len) refl, alike-self (a .text))
+
+-- A NOTE THAT MAY STAND NEXT is good; a blank is not
+pub follows-good : (y x : Note) → follows y x ≡ true → goodOf x ≡ true
+unfolding follows
+follows-good y x e = both-true (goodOf x) (isBefore (orderOf y x)) e .0
+
+pub blank-bad : goodOf blank ≡ false
+unfolding goodOf blank textGood
+blank-bad = refl

@@ -1,6 +1,6 @@
 -- THE SAME OVER WHAT IS LENT, Ask 8: a join leaves the same list in either order; a book that is written and read again is that book. Assumes nothing.
 use Prim.Native.Nat.{ℕ, _≤_}
-use mathlib.Core.Path.{_≡_, refl, sym, ap, _∙_}
+use mathlib.Core.Path.{_≡_, refl, ap, _∙_}
 use mathlib.Core.Bool.{true}
 use mathlib.Core.List.{List, _++_}
 use lib.ListN.{length, take, drop}
@@ -12,7 +12,7 @@ use Rattle.shelf.specs.declared.Outcome.the-variants.{Done, BadLine, Clash, Ful
 use Rattle.shelf.specs.Shelf.{isBook}
 use Rattle.shelf.specs.Outcome.{afterOf}
 use Rattle.union.specs.Union.{merged, joinOf}
-use Rattle.booktext.specs.BookText.{Meaning, Book, meaning, notesOf, readOutcome, readOf, textOf, textRoom, writtenAs, writeOf}
+use Rattle.booktext.specs.BookText.{notesOf, readOutcome, readOf, textOf, textRoom, writtenAs, writeOf}
 use Rattle.book.specs.Book.{readInto, writtenInto, joinedInto}
 use Rattle.agreed.proofs.Books.{first-bad}
 use Rattle.agreed.proofs.Theorems.{either-order, either-notes}

@@ -17,7 +17,7 @@ use Rattle.shelf.specs.declared.Outcome.the-variants.{Done, BadLine, Clash, Ful
 use Rattle.noteline.specs.NoteLine.{valued, fieldsOf, noteAt}
 use Rattle.booktext.specs.BookText.{Meaning, Book, BadAt, meaning}
 use Rattle.handed.specs.Handed.{outcomeOf, unionOf, printed, handedParts, handedText}
-use Rattle.agreed.proofs.Order.{blank-bad}
+use Rattle.notes.proofs.Laws.{blank-bad}
 use Rattle.agreed.proofs.Means.{no-room-means}
 use Rattle.spelled.proofs.Steps.{notes-bad}
 use Rattle.printout.specs.Printout.{Refused, bad, clash, full}

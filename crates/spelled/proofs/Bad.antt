@@ -14,7 +14,8 @@ use Rattle.noteline.specs.NoteLine.{lineOf, noteAt}
 use Rattle.booktext.specs.BookText.{Meaning, Book, BadAt, also, notesFrom, meaning, textOf}
 use Rattle.spelled.specs.Spelled.{Ranges, Each, lastOf, FirstBadLine}
 use Rattle.spelled.proofs.Spelling.{line-spelled, line-ranges}
-use Rattle.spelled.proofs.Steps.{notes-none, notes-full, notes-bad, notes-on, follows-good, text-none, text-more}
+use Rattle.notes.proofs.Laws.{follows-good}
+use Rattle.spelled.proofs.Steps.{notes-none, notes-full, notes-bad, notes-on, text-none, text-more}
 use Rattle.spelled.proofs.Book.{line-first, no-book}
 use Rattle.spelled.proofs.Sizes.{most-notes}
 

@@ -14,7 +14,8 @@ use Rattle.booktext.specs.BookText.{Meaning, Book, BadAt, also, notesFrom, mean
 use Rattle.spelled.specs.Spelled.{Ranges, Each, TwoFaces}
 use Rattle.spelled.proofs.Line.{note-back, tail-back}
 use Rattle.spelled.proofs.Spelling.{line-spelled, line-ranges, none-bad}
-use Rattle.spelled.proofs.Steps.{notes-none, notes-full, notes-bad, notes-on, follows-good, text-none, text-more}
+use Rattle.notes.proofs.Laws.{follows-good}
+use Rattle.spelled.proofs.Steps.{notes-none, notes-full, notes-bad, notes-on, text-none, text-more}
 
 -- A LINE IN FRONT of a text: it is a text that begins with a byte, so that the first line is taken
 pub line-first : (n k : ℕ) (y x : Note) (r : List ℕ) → follows y x ≡ true → Ranges x → notesFrom (suc n) k y (lineOf x ++ r) ≡ also x (notesFrom n (k + 1) x r)

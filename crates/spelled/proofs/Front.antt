@@ -14,7 +14,8 @@ use Rattle.noteline.specs.NoteLine.{lineOf, noteAt}
 use Rattle.booktext.specs.BookText.{also, notesFrom, meaning}
 use Rattle.spelled.proofs.Line.{note-back}
 use Rattle.spelled.proofs.Spelling.{line-spelled, line-ranges}
-use Rattle.spelled.proofs.Steps.{notes-full, notes-bad, notes-on, follows-good}
+use Rattle.notes.proofs.Laws.{follows-good}
+use Rattle.spelled.proofs.Steps.{notes-full, notes-bad, notes-on}
 use Rattle.spelled.proofs.Book.{line-first}
 use Rattle.spelled.proofs.Sizes.{longest-line}
 

@@ -17,15 +17,15 @@ use Rattle.text.specs.Lines.{lengthTo, headTo, tailAfter, ended}
 use Rattle.text.proofs.LineLaws.{split-first, ended-within}
 use Rattle.notes.specs.declared.Note.{Note}
 use Rattle.notes.specs.Notes.{blank, goodOf}
+use Rattle.notes.proofs.Laws.{blank-bad}
 use Rattle.noteline.specs.NoteLine.{lineOf, noteWith, held, valued, fieldsOf, noteAt}
 use Rattle.spelled.specs.Spelled.{Ranges}
 use Rattle.spelled.proofs.Decimal.{number-spelled}
 use Rattle.spelled.proofs.Line.{good-facts, fieldText, body, line-is}
 
 -- a blank is not good
-blank-bad : goodOf blank ≡ true → ⊥
-unfolding goodOf blank
-blank-bad e = never e
+no-blank : goodOf blank ≡ true → ⊥
+no-blank e = never (sym blank-bad ∙ e)
 
 -- WHAT WAS HELD of values that give a good note: they fit, and there is a text
 record Held (t n h : ℕ) (w : List ℕ) : Type 0 where
@@ -41,7 +41,7 @@ unfolding held
 held-good t n h w e = go (ltb t 256 && (ltb n 65536 && ltb (length w) 61)) refl e
   where
     go : (b : Bool) → (ltb t 256 && (ltb n 65536 && ltb (length w) 61)) ≡ b → goodOf (cond b (noteWith t n h w) blank) ≡ true → Held t n h w
-    go false p q = absurd (blank-bad q)
+    go false p q = absurd (no-blank q)
     go true p q =
         let a = both-true (ltb t 256) (ltb n 65536 && ltb (length w) 61) p in
         let b = both-true (ltb n 65536) (ltb (length w) 61) (a .1) in
@@ -111,9 +111,9 @@ module _ (l : List ℕ) where
     where
       go : (a b c : Number) → numberOf (headTo 9 l) ≡ a → numberOf (headTo 9 l₂) ≡ b → numberOf (headTo 9 l₃) ≡ c → goodOf (valued a b c w) ≡ true
           → Spells l (valued a b c w)
-      go None b c p q r z = absurd (blank-bad z)
-      go (Is t) None c p q r z = absurd (blank-bad z)
-      go (Is t) (Is n) None p q r z = absurd (blank-bad z)
+      go None b c p q r z = absurd (no-blank z)
+      go (Is t) None c p q r z = absurd (no-blank z)
+      go (Is t) (Is n) None p q r z = absurd (no-blank z)
       go (Is t) (Is n) (Is h) p q r z = held-spells t n h z (record { tablet = p; number = q; hours = r })
 
 -- A GOOD LINE that a text begins with
@@ -126,7 +126,7 @@ unfolding noteAt
 line-begins s e = go (ended s) refl e
   where
     go : (b : Bool) → ended s ≡ b → goodOf (cond b (fieldsOf (headTo 10 s)) blank) ≡ true → Begins s (cond b (fieldsOf (headTo 10 s)) blank)
-    go false p q = absurd (blank-bad q)
+    go false p q = absurd (no-blank q)
     go true p q =
         let r = tailAfter 10 s in
         let x = fieldsOf (headTo 10 s) in
@@ -145,4 +145,4 @@ line-ranges s e = line-begins s e .ranges
 -- where there is no line there is no good note
 pub none-bad : goodOf (noteAt []) ≡ true → ⊥
 unfolding noteAt ended headTo lengthTo
-none-bad e = blank-bad e
+none-bad e = no-blank e
