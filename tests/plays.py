@@ -7,13 +7,13 @@ Run: python3 tests/plays.py. The recordings stand in lessons/ and in tests/twin/
 import pathlib
 from collections import Counter
 
-from twin import plays_activation, plays_chance, plays_lines, plays_sheets, plays_taps
+from twin import plays_activation, plays_chance, plays_delay, plays_lines, plays_sheets, plays_taps
 from twin.recorder import Recording, recordings_of
 from twin.recording import lines_of, played
 
 ROOT = pathlib.Path(__file__).resolve().parent.parent
 LESSON = ROOT / "lessons" / "morning-notes.rec"
-CASES = (plays_taps, plays_activation, plays_sheets, plays_lines, plays_chance)
+CASES = (plays_taps, plays_activation, plays_delay, plays_sheets, plays_lines, plays_chance)
 MAX_LINE = 6
 
 

@@ -8,9 +8,10 @@ everywhere before."""
 import os, re, sys
 
 ROOM = 4096
-SIZE = 2445
+SIZE = 3474
 NAMES = "cid pin1 pin2 cvc curve max reusable usecvc setpin1 setpin2 nopurge replay active seed".split()
 FLAGS = NAMES[6:13]
+PAUSE = {b"pause\t%d\n" % seconds: seconds for seconds in range(61)}  # every line 15 that there is
 CURVES = {b"secp256k1": 1, b"ed25519": 2}
 
 
@@ -40,7 +41,11 @@ def read(data):
         if not feed or not tab or head != name.encode() or not good_value(name, value):
             return number, values
         values[name] = value
-    return (len(NAMES) + 1 if data else 0), values
+    after = len(NAMES) + 1
+    line, feed, rest = data.partition(b"\n")
+    if line + feed in PAUSE:  # the one line that may be there or not
+        values["pause"], data, after = PAUSE[line + feed], rest, after + 1
+    return (after if data else 0), values
 
 
 def image(values):
@@ -53,9 +58,10 @@ def image(values):
     out[75] = CURVES[values["curve"]]
     out[76:80] = int(values["max"]).to_bytes(4, "big")
     out[80:96] = bytes.fromhex(values["seed"].decode())
-    for place, flag in enumerate(FLAGS, 96):
+    out[96] = values.get("pause", 0)
+    for place, flag in enumerate(FLAGS, 97):
         out[place] = int(values[flag])
-    out[103] = 1  # Empty; number, Remaining, hashes, key, counters, data and signatures are 0
+    out[104] = 1  # Empty; number, Remaining, hashes, key, counters, data, the wait and the signatures are 0
     return bytes(out)
 
 
@@ -112,10 +118,9 @@ def sheet(values=PLAIN, **other):
 
 
 def replaced(number, line):
-    """The plain sheet with another line of that number."""
-    all_lines = lines(PLAIN)
-    all_lines[number - 1] = line
-    return b"".join(all_lines)
+    """The plain sheet with another line of that number. A line that is there is followed by two more, to keep the file short."""
+    before, after = lines(PLAIN)[: number - 1], lines(PLAIN)[number:]
+    return b"".join(before + [line] + (after[:2] if len(line) > 1 else after))
 
 
 WRONG = {
@@ -131,6 +136,22 @@ for flag in FLAGS:
     WRONG[flag] = [b"2", b"00", b"01", b"/", b"true"]
 
 
+# What is no line 15, though much of it comes near one.
+NO_PAUSE = [b"pause\t" + value + b"\n" for value in (
+    b"61", b"62", b"69", b"70", b"99", b"100", b"255", b"256", b"316", b"600", b"65536", b"4294967296", b"4294967356",
+    b"18446744073709551617", b"00", b"01", b"05", b"000", b"060", b"", b" ", b" 5", b"5 ", b"\t5", b"5\t", b"5\r", b"\r", b"5\0",
+    b"+5", b"-5", b"-0", b"5s", b"s", b"A", b"0x5", b"5.0", b"6,0", b"/", b":", b"1:", b"\xb5", b"five",
+)] + [
+    b"Pause\t5\n", b"PAUSE\t5\n", b"paus\t5\n", b"pauses\t5\n", b"pause \t5\n", b" pause\t5\n", b"\tpause\t5\n", b"ause\t5\n",
+    b"\t5\n", b"delay\t5\n", b"seed\t5\n", b"uid\t00000000\n", b"active\t1\n",  # other names
+    b"pause\n", b"pause5\n", b"pause 5\n", b"pause=5\n", b"pause:5\n",  # no tab
+    b"pause\t5", b"pause\t60", b"pause\t", b"pause", b"p", b"pause\t5\r", b"pause\t5\0",  # no line feed
+    b"\n", b"\r", b"\0", b" ", b"x", b"\n\n", b"\xef\xbb\xbfpause\t5\n",
+]
+AFTER_PAUSE = (b"\n", b"\r", b"\0", b" ", b"x", b"\n\n", b"pause", b"pause\t5", b"pause\t5\n", b"pause\t61\n", b"uid\t00000000\n",
+               b"seed\t" + b"0" * 32 + b"\n")
+
+
 def cases():
     # good ones, on both curves
     yield ROOM, sheet()
@@ -143,17 +164,22 @@ def cases():
         yield ROOM, sheet(PLAIN, **{flag: b"0" if PLAIN[flag] == b"1" else b"1"})
     for seed in (b"0" * 32, b"F" * 32, b"0" * 31 + b"1", b"8" + b"0" * 31):
         yield ROOM, sheet(PLAIN, seed=seed)
+    for seconds in (0, 1, 2, 9, 10, 11, 19, 20, 58, 59, 60):
+        yield ROOM, sheet() + b"pause\t%d\n" % seconds
+    yield ROOM, sheet(OTHER) + b"pause\t60\n"
     # an image buffer that is too short, also with a bad sheet
     for room in (ROOM - 1, SIZE, SIZE - 1, 1, 0):
         yield room, sheet()
     yield ROOM - 1, b""
     yield ROOM - 1, sheet(PLAIN, cid=b"00")
+    yield ROOM - 1, sheet() + b"pause\t60\n"
+    yield ROOM - 1, sheet() + b"pause\t61\n"
     # each line damaged
     for number, name in enumerate(NAMES, 1):
         value, key = PLAIN[name], name.encode()
         for wrong in WRONG[name]:  # with one line after it, to keep the file short
             yield ROOM, b"".join(lines(PLAIN, **{name: wrong})[: number + 1])
-        for line in (
+        damaged = (
             key.upper() + b"\t" + value + b"\n",  # another name
             key[:-1] + b"\t" + value + b"\n",
             key + b"x\t" + value + b"\n",
@@ -172,7 +198,9 @@ def cases():
             key + b"\t" + value,  # no line feed
             b"\n",  # an empty line
             b"",  # the line is missing
-        ):
+        )
+        # the flags are alike, so each has half of them
+        for line in damaged[number % 2 :: 2] if name in FLAGS else damaged:
             yield ROOM, replaced(number, line)
     # cut at each line: after its line feed, before it, after its tab, and in its name
     whole = lines(PLAIN)
@@ -180,9 +208,22 @@ def cases():
         front = b"".join(whole[:number])
         for part in (line[:-1], line[: line.index(b"\t") + 1], line[:1], b""):
             yield ROOM, front + part
-    # bytes after the last line
-    for after in (b"\n", b"\r", b"\x00", b" ", b"x", b"\n\n", whole[0], whole[-1], b"seed\t" + b"0" * 32 + b"\n", sheet()):
+    # bytes after line 14 that are no pause, alone and before one; and bytes after a pause
+    for after in NO_PAUSE + [whole[0], whole[-1], sheet()]:
+        assert read(sheet() + after)[0] == 15, after
         yield ROOM, sheet() + after
+    for after in (b"\n", b"x", b"pause\t61\n", b"pause\n", b"active\t1\n"):
+        yield ROOM, sheet() + after + b"pause\t5\n"
+    for after in AFTER_PAUSE:
+        assert read(sheet() + b"pause\t5\n" + after)[0] == 16, after
+        yield ROOM, sheet() + b"pause\t%d\n" % (len(after) % 3 * 30) + after
+    # a pause where it does not belong: before every other line, and in its place
+    for number in range(1, len(NAMES) + 1):
+        yield ROOM, b"".join(whole[: number - 1]) + b"pause\t5\n" + b"".join(whole[number - 1 :][:2])
+    yield ROOM, b"".join(whole[:-1]) + b"pause\t5\n"
+    # a good pause after a bad line
+    yield ROOM, sheet(PLAIN, seed=b"0" * 31) + b"pause\t5\n"
+    yield ROOM, sheet(PLAIN, active=b"2") + b"pause\t5\n"
     # lines in another order, and line feeds of another kind
     for number in range(len(NAMES) - 1):
         order = list(whole)

@@ -6,8 +6,8 @@ Run: python3 tests/taps.py. The cases stand in tests/twin/cases_*.py; tests/READ
 import pathlib
 
 from twin import (
-    cases_activation, cases_checks, cases_codes, cases_data, cases_handover, cases_numbers, cases_requests, cases_status, cases_twice,
-    cases_wallet,
+    cases_activation, cases_checks, cases_codes, cases_count, cases_data, cases_delay, cases_drops, cases_handover, cases_numbers,
+    cases_requests, cases_status, cases_twice, cases_wallet,
 )
 from twin.bench import NAMES
 from twin.replay import Replay
@@ -15,7 +15,7 @@ from twin.script import Script
 
 PLACE = pathlib.Path(__file__).resolve().parent.parent / "crates" / "taps"
 CASES = (cases_requests, cases_checks, cases_status, cases_wallet, cases_data, cases_numbers, cases_codes, cases_twice, cases_handover,
-         cases_activation)
+         cases_activation, cases_delay, cases_drops, cases_count)
 
 
 def written() -> Script:
@@ -28,14 +28,14 @@ def written() -> Script:
 
 
 def table(script: Script) -> str:
-    """How often settle ended in each number, and by which check each command was refused."""
+    """How often settle ended in each number, by which check each command was refused, and how often it had to wait."""
     rows = [f"{calls} x {letter}" for letter, calls in sorted(script.calls.items())]
     for ins, name in NAMES.items():
         seen = sorted((number, reason, times) for (of, number, reason), times in script.reasons.items() if of == ins)
         done = sum(times for number, reason, times in seen if (number, reason) == (0, 0))
         refused = " ".join(f"{reason}:{times}" for number, reason, times in seen if number == 0 and reason)
         numbers = " ".join(f"{number}:{times}" for number, _, times in seen if number)
-        rows.append(f"{name}: done {done}; refused by check {refused}; number {numbers}")
+        rows.append(f"{name}: done {done}; had to wait {script.waits[ins]}; refused by check {refused}; number {numbers}")
     return "\n".join(rows)
 
 

@@ -2,7 +2,7 @@
 
 import hashlib
 
-from twin.image import ED25519, EMPTY, LOADED, PURGED, SECP256K1, Card
+from twin.image import ED25519, EMPTY, IMAGE_LENGTH, LOADED, PLACE, PURGED, SECP256K1, Card
 from twin.request import big_endian, field, number
 
 CURVES = {SECP256K1: "secp256k1", ED25519: "ed25519"}
@@ -12,6 +12,7 @@ CID = bytes.fromhex("AA00000000016675")
 PIN1 = bytes(range(0x10, 0x30))
 PIN2 = bytes(range(0x50, 0x70))
 DEFAULT_PIN1 = bytes.fromhex("91B4D142823F7D20C5F08DF69122DE43F35F057A988D9619F6D3138485C9A203")  # SHA-256 of 000000
+DEFAULT_PIN2 = bytes.fromhex("2AC9A6746ACA543AF8DFF39894CFE8173AFBA21EB01C6FAE33D52947222855EF")  # SHA-256 of 000
 CVC = b"123"
 SEED = bytes(range(0x80, 0x90))
 DRAW = bytes(range(0xC0, 0xE0))
@@ -59,7 +60,7 @@ def key(curve: int, seed: int) -> bytes:
 def fresh(curve: int = SECP256K1, **values) -> Card:
     """A fresh card with replay protection that allows the rest and asks no CVC, but for the values given."""
     usual = dict(
-        pin1=PIN1, pin2=PIN2, cid=CID, cvc=CVC, curve=curve, max_signatures=1000, activation_seed=SEED,
+        pin1=PIN1, pin2=PIN2, cid=CID, cvc=CVC, curve=curve, max_signatures=1000, activation_seed=SEED, pause=0,
         reusable=1, cvc_used=0, pin1_may_change=1, pin2_may_change=1,
         purge_prohibited=0, replay_protection=1, activated=1,
     )
@@ -96,6 +97,17 @@ def ready(ins: int, curve: int = SECP256K1, make=in_status, **values) -> Card:
     """A card that does the command."""
     status = EMPTY if ins in (CREATE_WALLET, ACTIVATE_CARD) else LOADED
     return make(status, curve, activated=int(ins != ACTIVATE_CARD), **values)
+
+
+# Images of before, by what they lack: 2,445 bytes without the wait, 2,429 without the seed as well.
+NO_WAIT = ("pause", "wrong_codes", "seconds_left", "held_request")
+NO_SEED = ("activation_seed", *NO_WAIT)
+
+
+def without(names: tuple, image: bytes) -> bytes:
+    """The image with these values cut out."""
+    ends = [*PLACE.values(), IMAGE_LENGTH][1:]
+    return b"".join(image[start:end] for (name, start), end in zip(PLACE.items(), ends) if name not in names)
 
 
 # ---------------------------------------------------------------- requests
@@ -199,6 +211,11 @@ def codes(ins: int) -> tuple:
 def usual(ins: int) -> bytes:
     """The command with all it can need."""
     return request(ins, *codes(ins), *OWN_FIELDS[ins])
+
+
+def pause(seconds: int) -> bytes:
+    """What is answered while so many seconds are left."""
+    return b"\x1c\x02" + big_endian(100 * seconds, 2) + b"\x97\x89"
 
 
 # ---------------------------------------------------------------- tags that stand twice

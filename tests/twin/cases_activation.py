@@ -9,10 +9,10 @@ from twin import card as twin
 from twin.bench import (
     ACCESS, ACTIVATE_CARD, CHECK_WALLET, CID, CONFIRM, CREATE_WALLET, CURVES, CVC, DEFAULT_PIN1, DRAW, NAMES, OWN_FIELDS, PIN1, PIN2,
     PURGE_WALLET, READ_CARD, READ_ISSUER_DATA, READ_USER_DATA, SEED, SET_PIN, SIGN, STATUSES, VALIDATE_CARD, VERIFY_CARD,
-    WRITE_ISSUER_DATA, WRITE_USER_DATA, confirmation, codes, fresh, full, hashes, off_by_last, plain, request, some,
+    NO_SEED, WRITE_ISSUER_DATA, WRITE_USER_DATA, confirmation, codes, fresh, full, hashes, off_by_last, plain, request, some, without,
 )
-from twin.cases_handover import came_to, is_no_card
-from twin.image import CURVE_NAME, ED25519, EMPTY, PLACE, Card, decode, encode
+from twin.cases_handover import came_to, is_no_card, waited
+from twin.image import CURVE_NAME, ED25519, EMPTY, Card, decode, encode
 from twin.request import field
 
 DONE, NO_PIN1, NO_CID, NO_FIELDS, UNSIGNED = (0x9000, 0), (0x6A86, 6), (0x6A86, 7), (0x6A86, 11), (0x6286, 13)
@@ -83,12 +83,12 @@ def activated_already(script):
 
 
 def again(script):
-    """The same request a second time: its PIN1 is no more, or the card is activated."""
+    """The same request a second time: its PIN1 is no more, which costs a second, or the card is activated."""
     for reset in (0, 1):
         script.say(f"twice, Reset_PIN1 {reset}")
         pin1 = activates(script, fresh(activated=0), reset)
         came_to(script, RESET if reset else KEEP, NO_PIN1 if reset else ACTIVATED_ALREADY)
-        came_to(script, under(pin1, ACTIVATE_CARD, *confirmation(1)), ACTIVATED_ALREADY)
+        waited(script, under(pin1, ACTIVATE_CARD, *confirmation(1)), reset, ACTIVATED_ALREADY)
 
 
 # ---------------------------------------------------------------- its fields
@@ -205,7 +205,7 @@ def codes_after(script):
         pin1 = activates(script, fresh(activated=0, pin1_may_change=may_change), 1)
         came_to(script, under(pin1, CREATE_WALLET, *CONFIRM), DONE)
         came_to(script, under(PIN1, SIGN, *CONFIRM, *hashes(1)), NO_PIN1)
-        came_to(script, under(pin1, SIGN, *CONFIRM, *hashes(1)), DONE)
+        waited(script, under(pin1, SIGN, *CONFIRM, *hashes(1)), 1, DONE)
         back = under(pin1, SET_PIN, *CONFIRM, (0x12, PIN1), (0x13, PIN2))
         came_to(script, back, (0x9001, 0) if may_change else (0x6985, 12))
         came_to(script, under(PIN1, SIGN, *CONFIRM, *hashes(2)), DONE if may_change else NO_PIN1)
@@ -217,10 +217,9 @@ def codes_after(script):
 def of_before(script):
     """Without the seed an image has 2,429 bytes, and is no card."""
     for words, card in (("activated", fresh()), ("not activated", fresh(activated=0))):
-        image = encode(card)
-        without = image[: PLACE["activation_seed"]] + image[PLACE["activation_seed"] + 16 :]
-        assert len(without) == 2429
-        is_no_card(script, f"without a seed, {words}", without, READ, KEEP, b"")
+        image = without(NO_SEED, encode(card))
+        assert len(image) == 2429
+        is_no_card(script, f"without a seed, {words}", image, READ, KEEP, b"")
 
 
 GROUPS = (

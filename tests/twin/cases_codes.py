@@ -1,11 +1,12 @@
 """Cases for the comparison of codes: one bit turned, other lengths that begin with the right code, codes that end in zeros.
 
-What each must come to stands here by itself, so that the twin is held to it too.
+Each starts from a card on which nothing is counted. What it must come to stands here by itself, so that the twin is held to it too.
 """
 
 from itertools import product
 
 from twin.bench import CVC, PIN1, PIN2, READ_CARD, SET_PIN, SIGN, confirmed, fresh, hashes, loaded, plain, request
+from twin.image import decode
 
 REFUSED, FORBIDDEN = 0x6A86, 0x6985
 
@@ -14,17 +15,18 @@ class Code:
     """One of the codes: where a card holds it, a request that sends it with all else right, the check that refuses it."""
 
     def __init__(self, name: str, right: bytes, check: int, sent, **card):
-        self.name, self.right, self.check, self.sent, self.card = name, right, check, sent, card
+        self.name, self.right, self.check, self.sent, self.values = name, right, check, sent, card
 
-    def use(self, script, held: bytes):
-        script.use(loaded(**{self.name.lower(): held}, **self.card))
+    def use(self, held: bytes):
+        self.card = loaded(**{self.name.lower(): held}, **self.values)
 
     def refused(self, script, words: str, value: bytes):
-        settled = script.case(f"{self.name} {words}", None, self.sent(value))
+        settled = script.case(f"{self.name} {words}", self.card, self.sent(value))
         assert (settled.word, settled.reason) == (REFUSED, self.check), (self.name, words)
+        assert decode(settled.image) == self.card._replace(wrong_codes=1), (self.name, words)
 
     def taken(self, script, words: str, value: bytes):
-        settled = script.case(f"{self.name} {words}", None, self.sent(value))
+        settled = script.case(f"{self.name} {words}", self.card, self.sent(value))
         assert (settled.word, settled.reason) == (0x9000, 0), (self.name, words)
 
 
@@ -43,7 +45,7 @@ def turned(code: bytes, bit: int) -> bytes:
 
 def bits(script):
     for code in CODES:
-        code.use(script, code.right)
+        code.use(code.right)
         for bit in range(8 * len(code.right)):
             code.refused(script, f"with bit {bit} turned", turned(code.right, bit))
         code.taken(script, "as it is", code.right)
@@ -63,7 +65,7 @@ def new_codes(script):
 def lengths(script):
     """The front of the right code, or all of it with zeros or itself behind it."""
     for code in CODES:
-        code.use(script, code.right)
+        code.use(code.right)
         for length in (0, 1, 2, 4, 31, 33, 64, 254, 255):
             if length < len(code.right):
                 code.refused(script, f"of {length} bytes", code.right[:length])
@@ -76,7 +78,7 @@ def zeros(script):
     for code in CODES:
         size = len(code.right)
         for held, words in ((code.right[:-1] + b"\0", "that ends in 00"), (bytes(size), "of zeros")):
-            code.use(script, held)
+            code.use(held)
             code.refused(script, f"{words}, sent without its last byte", held[:-1])
             code.refused(script, f"{words}, sent as nothing", b"")
             code.refused(script, f"{words}, sent with one zero more", held + b"\0")

@@ -5,14 +5,14 @@ What each tap must come to stands here by itself, so that the twin is held to it
 
 from twin.bench import (
     CREATE_WALLET, CURVES, PIN2, PURGE_WALLET, READ_CARD, READ_ISSUER_DATA, READ_USER_DATA, REPEAT, confirmed, fresh, full, loaded,
-    off_by_last, request, sign, some, usual,
+    off_by_last, pause, request, sign, some, usual,
 )
 from twin.image import ED25519, EMPTY, LOADED, PLACE, PURGED, decode, encode
 from twin.request import field
 
 CREATE, PURGE = confirmed(CREATE_WALLET), confirmed(PURGE_WALLET)
 READS = usual(READ_CARD), usual(READ_USER_DATA), usual(READ_ISSUER_DATA)
-DONE, NO_STATUS, NO_CONDITION = (0x9000, 0), (0x6985, 9), (0x6985, 12)
+DONE, PAUSED, NO_STATUS, NO_CONDITION = (0x9000, 0), (0x9789, 0), (0x6985, 9), (0x6985, 12)
 
 
 def held(count: int) -> bytes:
@@ -23,6 +23,13 @@ def came_to(script, sent: bytes, expected: tuple):
     settled = script.tap(sent)
     assert (settled.word, settled.reason) == expected, (sent.hex(), settled)
     return settled
+
+
+def waited(script, sent: bytes, seconds: int, expected: tuple):
+    """The same bytes so many times and once more."""
+    for left in range(seconds, 0, -1):
+        assert came_to(script, sent, PAUSED).response == pause(left), (sent.hex(), left)
+    return came_to(script, sent, expected)
 
 
 def signs_and_repeats(script, count: int):
@@ -83,7 +90,7 @@ def last_numbers(script):
 
 
 def refused_purges(script):
-    """The repeat after it gives what it gave before."""
+    """The repeat after it gives what it gave before, if need be a second later."""
     rows = (
         ("prohibited", dict(purge_prohibited=1), PURGE, NO_CONDITION),
         ("prohibited, not reusable", dict(purge_prohibited=1, reusable=0), PURGE, NO_CONDITION),
@@ -96,7 +103,7 @@ def refused_purges(script):
             script.use(loaded(last_signatures=held(count), **values))
             before = came_to(script, REPEAT, DONE)
             came_to(script, sent, expected)
-            assert came_to(script, REPEAT, DONE) == before, words
+            assert waited(script, REPEAT, int(words == "wrong PIN2"), DONE) == before, words
 
 
 def stray_answers(script):

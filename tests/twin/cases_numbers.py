@@ -1,10 +1,10 @@
 """Cases for the numbers 1 to 4 and check 13: images, buffers, draws, answers, and the order among them."""
 
 from twin.bench import (
-    ACTIVATE_CARD, CHALLENGE, CHECK_WALLET, CONFIRM, CREATE_WALLET, DRAW, NAMES, PIN1, READ_CARD, SIGN, WRITE_ISSUER_DATA, confirmed,
-    fresh, key, loaded, plain, purged, ready, request, sign, some, usual,
+    ACTIVATE_CARD, CHALLENGE, CHECK_WALLET, CONFIRM, CREATE_WALLET, DRAW, NAMES, NO_WAIT, PIN1, READ_CARD, SIGN, WRITE_ISSUER_DATA,
+    confirmed, fresh, key, loaded, plain, purged, ready, request, sign, some, usual, without,
 )
-from twin.card import ask
+from twin.card import ask, is_card
 from twin.image import ED25519, IMAGE_LENGTH, LOADED, PLACE, SECP256K1, Card, encode
 
 READ = plain(READ_CARD, (0x10, PIN1))
@@ -86,6 +86,7 @@ def poked(card: Card, offset: int, value: int) -> bytes:
 
 KEY = PLACE["wallet_public_key"]  # its length, which the key follows
 SIGNATURES = PLACE["last_signatures"]  # their number
+HELD = PLACE["held_request"]  # its length, which the request follows
 DATA_PLACES = {
     PLACE["user_data"]: dict(user_data=some(512)),
     PLACE["user_protected_data"]: dict(user_protected_data=some(512)),
@@ -158,8 +159,45 @@ def wrong_bytes() -> list:
     ]
 
 
+def held(length: int, left: int, **values) -> Card:
+    return fresh(**{"held_request": some(length, 7), "seconds_left": left, **values})
+
+
+def wrong_waits() -> list:
+    return [
+        ("pause 61", changed(fresh(), pause=61)),
+        ("pause 255", changed(fresh(), pause=255)),
+        ("61 wrong codes", changed(fresh(), wrong_codes=61)),
+        ("61 wrong codes, a request held", changed(held(6, 1), wrong_codes=61)),
+        ("255 wrong codes", changed(fresh(), wrong_codes=255)),
+        *((f"{left} seconds left and nothing held", changed(fresh(), seconds_left=left)) for left in (1, 120, 121)),
+        *((f"a request held with {left} seconds left", changed(held(39, 1), seconds_left=left)) for left in (0, 121, 255)),
+        *((f"{length} bytes held", encode(held(length, 1))) for length in range(1, 6)),
+        ("five bytes held, none left", encode(held(5, 0))),
+        ("1,024 bytes held with none left", encode(held(1024, 0))),
+        ("1,025 bytes held", poked(held(1024, 120), HELD + 1, 1)),
+        ("1,280 bytes held", poked(held(1024, 120), HELD, 5)),
+        ("65,280 bytes held", poked(held(1024, 120), HELD, 255)),
+        ("a byte after the held request", poked(held(6, 1), HELD + 2 + 6, 1)),
+        ("a byte at the end of the room for the held request", poked(held(1023, 1), SIGNATURES - 1, 1)),
+        ("a byte where no request is held", poked(fresh(), HELD + 2, 1)),
+        ("2,445 bytes: without pause and wait", without(NO_WAIT, encode(fresh()))),
+    ]
+
+
+def odd_waits() -> tuple:
+    """Cards all the same: the ends of each range, and requests that nobody can have sent."""
+    return (
+        ("pause 60", fresh(pause=60)), ("60 wrong codes", fresh(wrong_codes=60)), ("six zeros held", held(6, 1, held_request=bytes(6))),
+        ("six bytes held, 120 seconds left", held(6, 120)), ("1,024 bytes held, one second left", held(1024, 1)),
+        ("1,024 bytes of zeros held, all at its top", held(6, 120, held_request=bytes(1024), pause=60, wrong_codes=60)),
+        ("not activated, a request held", held(40, 60, activated=0, wrong_codes=60)), ("Purged, a request held", purged(
+            held_request=some(7, 7), seconds_left=2, pause=1)),
+    )
+
+
 def no_card(script):
-    for words, image in wrong_values() + wrong_bytes():
+    for words, image in wrong_values() + wrong_bytes() + wrong_waits():
         settled = script.case(words, image, READ)
         assert settled.number == 1, words
 
@@ -175,7 +213,8 @@ def odd_cards(script):
         ("an ed25519 key of zeros", loaded(ED25519, wallet_public_key=bytes(32))),
         ("codes, CID and CVC of zeros", fresh(pin1=bytes(32), pin2=bytes(32), cid=bytes(8), cvc=bytes(3))),
     )
-    for words, card in rows:
+    for words, card in rows + odd_waits():
+        assert is_card(encode(card)), words
         script.case(words, card, plain(READ_CARD, (0x10, card.pin1)))
 
 

@@ -151,6 +151,7 @@ def codes_and_cid(script):
         fields = [] if pin is None else [(0x10, pin)]
         script.case(f"PIN1 {words}", None, plain(READ_USER_DATA, *fields, (0x01, CID)))
         script.case(f"READ_CARD, PIN1 {words}", None, plain(READ_CARD, *fields, (0x01, CID)))
+    script.use(fresh())
     for words, cid in cids:
         fields = [] if cid is None else [(0x01, cid)]
         script.case(f"CID {words}", None, plain(READ_USER_DATA, (0x10, PIN1), *fields))

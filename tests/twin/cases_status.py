@@ -96,8 +96,8 @@ def set_pin_in_force(script):
     read = plain(READ_CARD, (0x10, new1))
     validate = plain(VALIDATE_CARD, (0x10, new1), (0x01, CID), (0x11, new2))
     back = plain(SET_PIN, (0x10, new1), (0x01, CID), (0x11, new2), (0x12, PIN1), (0x13, PIN2))
-    script.case("old codes no longer, new codes from the next command on, and back", loaded(),
-                change, change, usual(READ_CARD), read, usual(VALIDATE_CARD), validate, back, usual(VALIDATE_CARD))
+    script.case("old codes no longer, new codes from the next command on, a second later for each old one, and back", loaded(),
+                change, change, usual(READ_CARD), *[read] * 3, usual(VALIDATE_CARD), *[validate] * 2, back, usual(VALIDATE_CARD))
     script.case("CVC asked", fresh(cvc_used=1), change, request(SET_PIN, *CONFIRM_CVC, (0x12, new1), (0x13, new2)))
 
 

@@ -2,8 +2,11 @@
 
 import random
 
-from twin.commands import DEFAULT_PIN1
-from twin.image import ED25519, EMPTY, KEY_LENGTH, LOADED, PURGED, SECP256K1, SIGNATURE_LENGTH, TOP_16, TOP_32, Card
+from twin.commands import DEFAULT_PIN1, DEFAULT_PIN2
+from twin.image import (
+    ED25519, EMPTY, KEY_LENGTH, LOADED, LONGEST_PAUSE, LONGEST_REQUEST, LONGEST_WAIT, MOST_WRONG_CODES, PURGED, SECP256K1,
+    SHORTEST_REQUEST, SIGNATURE_LENGTH, TOP_16, TOP_32, Card,
+)
 
 DATA_ROOM = 512
 MOST_SIGNATURES = 10
@@ -44,25 +47,43 @@ def any_card(chance: Chance) -> Card:
     """Any card at all, also one to which no history leads."""
     if chance.often(0.15):
         return not_activated(chance)
-    card = held(chance, fresh(chance))
+    card = waiting(chance, held(chance, fresh(chance)))
     status = chance.choices((EMPTY, LOADED, PURGED), (3, 6, 1))[0]
     return {EMPTY: emptied, LOADED: loaded, PURGED: purged}[status](chance, card)
 
 
 def not_activated(chance: Chance) -> Card:
-    return held(chance, fresh(chance)._replace(activated=0))
+    return waiting(chance, held(chance, fresh(chance)._replace(activated=0)))
+
+
+def few_seconds(chance: Chance, most: int) -> int:
+    """Mostly none or few, so that a history comes to their end; now and then near the most."""
+    return chance.choice((0, 0, 0, 0, 0, 0, 1, 1, 2, 3)) if chance.often(0.9) else chance.near_ends(0, most)
+
+
+def waiting(chance: Chance, card: Card) -> Card:
+    """The card with wrong codes counted, and with bytes held that are hardly a request of its."""
+    card = card._replace(wrong_codes=few_seconds(chance, MOST_WRONG_CODES))
+    if chance.often(0.9):
+        return card
+    return card._replace(
+        seconds_left=chance.near_ends(1, LONGEST_WAIT),
+        held_request=chance.randbytes(chance.near_ends(SHORTEST_REQUEST, LONGEST_REQUEST)),
+    )
 
 
 def fresh(chance: Chance) -> Card:
     pin1 = DEFAULT_PIN1 if chance.often(0.1) else chance.randbytes(32)
+    pin2 = chance.choice((pin1, DEFAULT_PIN2)) if chance.often(0.1) else chance.randbytes(32)
     return Card(
         pin1=pin1,
-        pin2=pin1 if chance.often(0.05) else chance.randbytes(32),
+        pin2=pin2,
         cid=chance.randbytes(8),
         cvc=chance.randbytes(3),
         curve=chance.choice((SECP256K1, ED25519)),
         max_signatures=chance.near_ends(1, TOP_32),
         activation_seed=chance.choice((bytes(16), b"\xff" * 16)) if chance.often(0.1) else chance.randbytes(16),
+        pause=few_seconds(chance, LONGEST_PAUSE),
         reusable=chance.flag(0.7),
         cvc_used=chance.flag(0.4),
         pin1_may_change=chance.flag(0.7),

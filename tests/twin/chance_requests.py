@@ -7,11 +7,10 @@ from twin.bench import (
     VERIFY_CARD, WITH_CVC, WITH_PIN2, WRITE_ISSUER_DATA, WRITE_USER_DATA, header, long_field, long_lc, short_lc,
 )
 from twin.chance import DATA_ROOM, Chance
-from twin.commands import COMMANDS, HASH_LENGTH, MOST_HASHES
-from twin.image import SIGNATURE_LENGTH, TOP_32, Card
-from twin.request import Tag, big_endian, field
+from twin.commands import COMMANDS, DEFAULT_PIN1, DEFAULT_PIN2, HASH_LENGTH, MOST_HASHES
+from twin.image import LONGEST_REQUEST as LONGEST, SIGNATURE_LENGTH, TOP_32, Card
+from twin.request import Tag, big_endian, field, payload_of
 
-LONGEST = 1024
 CODES = (Tag.CID, Tag.PIN1, Tag.PIN2, Tag.CVC)
 # How often a command is drawn from those that the card's status allows. A purge ends much, and an activation comes once, so they are rare.
 WEIGHTS = {ins: 4 for ins in NAMES} | {
@@ -64,9 +63,16 @@ def any_request(chance: Chance, card: Card) -> bytes:
     return chance.choice(BREAKS)(chance, request) if chance.often(0.05) else request
 
 
+def next_request(chance: Chance, card: Card) -> bytes:
+    """Where a request is held, mostly the same bytes again, or nearly the same; the longer the wait, the less often."""
+    if not card.held_request or not chance.often(0.85 if card.seconds_left < 8 else 0.5):
+        return any_request(chance, card)
+    return chance.choice(NEARLY)(chance, card.held_request) if chance.often(0.06) else card.held_request
+
+
 def any_command(chance: Chance, card: Card) -> int:
     if chance.often(0.12):
-        return chance.choice(list(NAMES))
+        return chance.choice([*NAMES, SIGN, SIGN])
     allowed = [ins for ins in NAMES if card.status in COMMANDS[ins].allowed_in]
     weights = WEIGHTS if card.activated else NOT_ACTIVATED_WEIGHTS
     return chance.choices(allowed, [weights[ins] for ins in allowed])[0]
@@ -248,6 +254,14 @@ def wrong_tag(*tags: int) -> Callable:
     return damage
 
 
+def default_code(chance: Chance, draft: Draft, card: Card):
+    """A default in the place of PIN1 or of PIN2, mostly its own."""
+    at = chance.choice(draft.places(Tag.PIN1) + draft.places(Tag.PIN2) or [None])
+    if at is not None:
+        tag, own = draft.fields[at][0], {Tag.PIN1: DEFAULT_PIN1, Tag.PIN2: DEFAULT_PIN2}
+        draft.fields[at] = (tag, own[tag] if chance.often(0.8) else chance.choice((DEFAULT_PIN1, DEFAULT_PIN2)))
+
+
 def one_wrong_field(chance: Chance, draft: Draft, card: Card):
     wrong_value(chance, draft, range(len(draft.fields)))
 
@@ -263,8 +277,9 @@ def no_own_field(chance: Chance, draft: Draft, card: Card):
 
 # Lengths of the hash array with the hash size, each possibly absent, that no SIGN takes.
 ODD_HASHES = (
-    (0, None), (0, b"\x20"), (None, b"\x20"), (32, None), (32, b""), (32, b"\x21"), (32, b"\0\x20"), (1, b"\x20"), (31, b"\x20"),
-    (33, b"\x20"), (319, b"\x20"), (321, b"\x20"), (352, b"\x20"), (352, b"\x20"),
+    (0, None), (0, None), (0, None), (0, b"\x20"), (0, b"\x20"), (None, b"\x20"), (32, None), (32, b""), (32, b"\x21"),
+    (32, b"\0\x20"), (1, b"\x20"), (31, b"\x20"), (33, b"\x20"), (319, b"\x20"), (321, b"\x20"), (352, b"\x20"), (352, b"\x20"),
+    (352, b"\x20"),
 )
 
 
@@ -282,7 +297,7 @@ DAMAGES = (
     other_class, other_command, other_parameters, other_parameters, half_field, doubled_field, doubled_field, doubled_field,
     one_wrong_field, one_own_field, one_own_field, one_own_field, no_own_field, odd_hashes, odd_hashes,
     wrong_tag(Tag.PIN1), wrong_tag(Tag.CID), wrong_tag(Tag.PIN2), wrong_tag(Tag.CVC), wrong_tag(Tag.PIN2, Tag.CVC),
-    wrong_tag(Tag.MODE, Tag.PUBLIC_KEY_CHALLENGE, Tag.USER_DATA),
+    wrong_tag(Tag.MODE, Tag.PUBLIC_KEY_CHALLENGE, Tag.USER_DATA), default_code, default_code,
 )
 
 
@@ -314,3 +329,18 @@ def any_bytes(chance: Chance, request: bytes) -> bytes:
 
 
 BREAKS = (cut_short, few_bytes, bytes_after, one_bit, one_bit, other_lc, any_bytes)
+
+
+def other_form(chance: Chance, request: bytes) -> bytes:
+    """The same payload under the other Lc, where it has one."""
+    payload = payload_of(request)
+    if payload is None or len(payload) > 255:
+        return request
+    return request[:4] + (short_lc if request[4] == 0 else long_lc)(payload)
+
+
+def last_bit(chance: Chance, request: bytes) -> bytes:
+    return request[:-1] + bytes([request[-1] ^ 1])
+
+
+NEARLY = (one_bit, last_bit, other_form, other_form, cut_short, bytes_after)

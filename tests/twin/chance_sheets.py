@@ -1,25 +1,27 @@
 """Personalisation sheets by chance, good ones and damaged ones."""
 
-from twin.chance import Chance
-from twin.image import TOP_32
+from twin.chance import Chance, few_seconds
+from twin.image import LONGEST_PAUSE, TOP_32
 
 NAMES = (b"cid", b"pin1", b"pin2", b"cvc", b"curve", b"max", b"reusable", b"usecvc", b"setpin1", b"setpin2", b"nopurge",
-         b"replay", b"active", b"seed")
+         b"replay", b"active", b"seed", b"pause")
 OF_HEX = [NAMES.index(name) for name in (b"cid", b"pin1", b"pin2", b"seed")]
 # Values that stand near a good one for some line or other.
 ODD_VALUES = (
     b"", b"0", b"1", b"2", b"00", b"01", b"+1", b"-1", b" 1", b"1 ", b"1\r", b"1\t", b"\t1", b"007", b"12", b"1234", b"12A",
     b"4294967295", b"4294967296", b"4294967300", b"9999999999", b"10000000000", b"42949672950", b"18446744073709551617",
-    b"secp256k1", b"ed25519", b"secp256r1", b"Secp256k1", b"secp256k1\0", b"ed2551", b"yes", b"\xff",
+    b"secp256k1", b"ed25519", b"secp256r1", b"Secp256k1", b"secp256k1\0", b"ed2551", b"yes", b"\xff", b"05", b"60", b"61", b"060",
 )
 
 
 def good_lines(chance: Chance) -> list:
+    """The last of the names is there in every second sheet."""
     def hexed(length: int) -> bytes:
         return chance.randbytes(length).hex().upper().encode()
 
     values = [hexed(8), hexed(32), hexed(32), b"%03d" % chance.randrange(1000), chance.choice((b"secp256k1", b"ed25519")),
               b"%d" % chance.near_ends(1, TOP_32), *(b"%d" % chance.flag() for _ in range(7)), hexed(16)]
+    values += [b"%d" % few_seconds(chance, LONGEST_PAUSE)] * chance.flag()
     return [name + b"\t" + value + b"\n" for name, value in zip(NAMES, values)]
 
 
@@ -99,7 +101,7 @@ def one_byte_less(chance: Chance, sheet: bytes) -> bytes:
 
 
 def bytes_after(chance: Chance, sheet: bytes) -> bytes:
-    return sheet + chance.choice((b"\n", b"\0", b" ", b"uid\t00\n", chance.randbytes(5)))
+    return sheet + chance.choice((b"\n", b"\0", b" ", b"uid\t00\n", b"pause\t5\n", b"pause\t61\n", chance.randbytes(5)))
 
 
 BYTE_DAMAGES = (cut_short, one_bit, one_bit, one_byte_more, one_byte_less, bytes_after)

@@ -60,11 +60,12 @@ def status_forbids(tap: Tap) -> bool:
     return tap.card.status not in command_of(tap).allowed_in
 
 
-def codes_differ(tap: Tap) -> bool:
-    card, command = tap.card, command_of(tap)
-    if command.needs_pin2(tap) and tap.value(Tag.PIN2) != card.pin2:
-        return True
-    return command.asks_cvc and bool(card.cvc_used) and tap.value(Tag.CVC) != card.cvc
+def pin2_differs(tap: Tap) -> bool:
+    return command_of(tap).needs_pin2(tap) and tap.value(Tag.PIN2) != tap.card.pin2
+
+
+def cvc_differs(tap: Tap) -> bool:
+    return command_of(tap).asks_cvc and bool(tap.card.cvc_used) and tap.value(Tag.CVC) != tap.card.cvc
 
 
 def fields_do_not_fit(tap: Tap) -> bool:
@@ -87,7 +88,8 @@ CHECKS = (
     (7, SW_INVALID_PARAMS, cid_differs),
     (8, SW_INVALID_STATUS, not_activated),
     (9, SW_INVALID_STATUS, status_forbids),
-    (10, SW_INVALID_PARAMS, codes_differ),
+    (10, SW_INVALID_PARAMS, pin2_differs),
+    (10, SW_INVALID_PARAMS, cvc_differs),
     (11, SW_INVALID_PARAMS, fields_do_not_fit),
     (12, SW_INVALID_STATUS, conditions_fail),
 )

@@ -12,6 +12,7 @@ DATA_ROOM = 512
 MOST_HASHES = 10
 HASH_LENGTH = 32
 DEFAULT_PIN1 = sha256(b"000000").digest()
+DEFAULT_PIN2 = sha256(b"000").digest()
 ACCESS = (Tag.PIN1, Tag.CID)
 CODES = (Tag.PIN2, Tag.CVC)
 

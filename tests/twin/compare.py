@@ -19,8 +19,10 @@ from twin.image import IMAGE_LENGTH
 from twin.pair import Differs, Pair
 from twin.proved import Proved
 from twin.reached import Reached, beyond, never, tables
-from twin.sheet import AFTER_SHEET, NO_ROOM
-from twin.sweeps import codes, confirmations, image_lengths, images, images_not_activated, rooms, sheet_bytes, sheets
+from twin.sheet import AFTER_PAUSE, NO_ROOM
+from twin.sweeps import (
+    codes, confirmations, image_lengths, images, images_not_activated, images_waiting, rooms, sheet_bytes, sheets, waits,
+)
 
 DIFFERENCES_SHOWN = 3
 
@@ -58,8 +60,8 @@ def run(job: Job) -> Outcome:
 
 
 def jobs(taps: int) -> list:
-    kinds = ((histories, -(-taps // TAPS_IN_A_JOB)), (images, 10), (images_not_activated, 2), (image_lengths, 1), (rooms, 2), (codes, 2),
-             (confirmations, 1), (sheets, 10), (sheet_bytes, 2))
+    kinds = ((histories, -(-taps // TAPS_IN_A_JOB)), (images, 10), (images_not_activated, 2), (images_waiting, 4), (image_lengths, 1),
+             (rooms, 2), (codes, 2), (waits, 1), (confirmations, 1), (sheets, 10), (sheet_bytes, 2))
     return [Job(work, at) for work, count in kinds for at in range(count)]
 
 
@@ -91,9 +93,11 @@ TITLES = {
     histories: "taps by chance in histories",
     images: "images damaged byte by byte",
     images_not_activated: "the same, of cards that are not activated",
+    images_waiting: "the same, of cards that hold a request",
     image_lengths: "images of every length up to 4,096",
     rooms: "lent buffers of every short length",
-    codes: "codes right, wrong, of another length and absent, together",
+    codes: "codes right, wrong, default, of another length and absent, together",
+    waits: "every wait from none to 120 seconds, to its end",
     confirmations: "confirmations with every Reset_PIN1, every length of the signature, every answer",
     sheets: "sheets by chance",
     sheet_bytes: "a sheet damaged byte by byte, and every short buffer for its image",
@@ -114,11 +118,11 @@ def report_reached(report: Report, taps: int, tapped, others):
     made = tapped["call", "settle"]
     report.check(f"{made} taps", made >= taps)
     missing, surplus = never(tapped), beyond(tapped)
-    report.check("every command, check, number, status word and end of a range was reached", not missing, "; ".join(missing))
+    report.check("every command, check, pace, number, status word and end of a range was reached", not missing, "; ".join(missing))
     report.check("nothing was reached that cannot be", not surplus, "; ".join(surplus))
     kept, refused = others["image", 0], others["image", 1]
     report.check(f"damaged images: {refused} no card, {kept} still a card", kept > 0 and refused > 0)
-    answers = {answer: others["sheet", answer] for answer in [*range(AFTER_SHEET + 1), NO_ROOM]}
+    answers = {answer: others["sheet", answer] for answer in [*range(AFTER_PAUSE + 1), NO_ROOM]}
     print("sheets by answer: " + ", ".join(f"{answer}: {times}" for answer, times in answers.items()))
     report.check("every answer to a sheet was reached", all(answers.values()))
 
@@ -146,7 +150,7 @@ def main() -> int:
     length = Proved(given.program).image_length()
     report.check(f"an image has {length} bytes", length == IMAGE_LENGTH)
     outcomes = run_all(given.program, given.seed, given.taps, given.processes)
-    others = images, images_not_activated, sheets, sheet_bytes
+    others = images, images_not_activated, images_waiting, sheets, sheet_bytes
     report_reached(report, given.taps, summed(outcomes, (histories,)), summed(outcomes, others))
     report_jobs(report, outcomes)
     print(f"{report.passed} passed, {report.failed} failed")

@@ -1,11 +1,13 @@
-"""Taps by chance, in histories: each tap on the image that the last one left."""
+"""Taps by chance, in histories: each tap, and each power-off, on the image that the last one left."""
 
 from typing import NamedTuple
 
+from twin.card import SW_NEED_PAUSE
 from twin.chance import Chance, any_card
-from twin.chance_requests import any_request
-from twin.image import IMAGE_LENGTH, LOADED, PLACE, Card, decode, encode
+from twin.chance_requests import any_command, good_draft, next_request
+from twin.image import IMAGE_LENGTH, LOADED, LONGEST_REQUEST, PLACE, Card, decode, encode
 from twin.pair import ROOMS, Pair
+from twin.reached_delay import Paced
 from twin.request import number
 
 TAPS_IN_A_JOB = 2000
@@ -50,32 +52,49 @@ def lent_by_chance(chance: Chance, image: bytes) -> Lent:
 
 
 def damaged_image(chance: Chance, image: bytes) -> bytes:
-    """One byte another, mostly among the values before the data, signatures where no wallet made them, or another length."""
+    """One byte another, mostly among the values before the data or of the wait, signatures where no wallet made them, or another length."""
     card = decode(image)
     if card.status != LOADED and chance.often(0.3):
         return encode(card._replace(last_signatures=chance.signatures(least=1)))
     if chance.often(0.1):
         return chance.choice((image[:-1], image + b"\0", b"", image[: chance.randrange(IMAGE_LENGTH)]))
-    at = chance.randrange(PLACE["curve"], PLACE["user_data"] + 2) if chance.often(0.6) else chance.randrange(IMAGE_LENGTH)
+    values, wait = (PLACE["curve"], PLACE["user_data"] + 2), (PLACE["wrong_codes"], PLACE["held_request"] + 10)
+    at = chance.randrange(*chance.choices((values, wait, (0, IMAGE_LENGTH)), (6, 1, 3))[0])
     return image[:at] + bytes([chance.choice((0, 1, 2, 3, 255, chance.randrange(256)))]) + image[at + 1 :]
 
 
 def tap(pair: Pair, card: Card, image: bytes) -> bytes:
     """Both calls on one request. Returns the image that the card is left with."""
     chance = pair.chance
-    request, lent = any_request(chance, card), lent_by_chance(chance, image)
+    request, lent = next_request(chance, card), lent_by_chance(chance, image)
     asked = pair.ask(lent.image, request, lent.draw, lent.rooms[0])
-    if asked.reason:
+    if asked.reason or asked.word == SW_NEED_PAUSE:
         answers = chance.randbytes(chance.choice((0, 0, 1, 64, 65, 700)))
     else:
         answers = answers_by_chance(chance, asked.questions)
     settled = pair.settle(lent.image, request, lent.draw, answers, *lent.rooms[1:])
     if settled.number == 1:
         pair.reached.no_card(lent.image)
-    if settled.image is None:
-        return image
-    pair.reached.tapped(request, settled.reason, decode(lent.image), decode(settled.image))
-    return settled.image
+    if settled.number in (0, 4):
+        pair.reached.paced(Paced(decode(lent.image), request, settled))
+    return image if settled.image is None else settled.image
+
+
+def power_off(pair: Pair, image: bytes) -> bytes:
+    """Returns the image that the card is left with."""
+    lent = lent_by_chance(pair.chance, image)
+    off = pair.power_off(lent.image, lent.rooms[2])
+    pair.reached.powered_off(lent.image, off)
+    return image if off.image is None else off.image
+
+
+def first_card(chance: Chance) -> Card:
+    """Any card, now and then with a request held that it takes."""
+    card = any_card(chance)
+    if chance.often(0.9):
+        return card
+    request = good_draft(chance, card, any_command(chance, card)).written(chance)
+    return card._replace(held_request=request[:LONGEST_REQUEST], seconds_left=chance.near_ends(1, 5))
 
 
 def with_codes(chance: Chance, card: Card, first: Card) -> Card:
@@ -87,9 +106,11 @@ def histories(pair: Pair):
     """Cards by chance, each tapped some dozens of times, every tap on the image that the last one left."""
     left = TAPS_IN_A_JOB
     while left:
-        first = any_card(pair.chance)
+        first = first_card(pair.chance)
         image = encode(first)
         pair.reached.begun()
         for _ in range(min(left, pair.chance.randint(10, 60))):
             image = tap(pair, with_codes(pair.chance, decode(image), first), image)
             left -= 1
+            if pair.chance.often(0.03):
+                image = power_off(pair, image)

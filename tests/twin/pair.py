@@ -62,6 +62,14 @@ class Pair:
         self.reached.called("settle", request, settled)
         return settled
 
+    def power_off(self, image: bytes, next_room: int) -> twin.Settled:
+        following = self.lent(next_room)
+        off = twin.power_off(image, next_room)
+        left = off.image or b""
+        expected = RESULT.pack(off.number, off.reason, off.word, len(off.response)) + left + following[len(left) :]
+        self.compare(expected, self.proved.power_off, (image, following), "image next")
+        return off
+
     def personalise(self, sheet: bytes, room: int) -> int:
         lent = self.lent(room)
         answer, image = twin.personalise(sheet, room)

@@ -47,12 +47,13 @@ def kept(book: list):
 
 
 def reset(book: list):
-    """The old PIN1 is no more, and the sums are those of the SIGNs under the default one. A purge and a wallet begin them anew."""
+    """The old PIN1 is no more: each try with it costs the next request a second. The sums are those of the SIGNs under the default one.
+    A purge and a wallet begin them anew."""
     recording = waiting(book, "activation: PIN1 reset", max="5", setpin1="0")
     told = recording.tap(RESET)
     for sent in (READ, RESET, CREATE):
         came_to(recording, sent, WRONG)
-    came_to(recording, plain(READ_CARD, (0x10, DEFAULT_PIN1)), told)
+    assert recording.tap_after(3, plain(READ_CARD, (0x10, DEFAULT_PIN1))) == told
     came_to(recording, under_default(ACTIVATE_CARD, *confirmation(1)), NOT_ACTIVATED)
     for ins, *fields in ((CREATE_WALLET,), (SIGN, *hashes(2)), (PURGE_WALLET,), (CREATE_WALLET,), (SIGN, *hashes(4))):
         recording.tap(under_default(ins, *CONFIRM, *fields))

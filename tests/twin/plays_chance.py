@@ -1,8 +1,8 @@
-"""Recordings of taps by chance, from a fixed seed: all commands, some refused; and the same with wrong expectations."""
+"""Recordings of taps by chance, from a fixed seed: all commands, some refused, some after a wait; and the same with wrong expectations."""
 
-from twin.card import ask
+from twin.card import SW_NEED_PAUSE, ask
 from twin.chance import Chance
-from twin.chance_requests import any_request
+from twin.chance_requests import next_request
 from twin.histories import answers_by_chance
 from twin.image import decode
 from twin.recorder import Recording
@@ -18,9 +18,10 @@ class Brief(Chance):
 
 
 def some_request(chance: Chance, card) -> bytes:
+    """No empty one, which would be a bad line."""
     while True:
-        request = any_request(chance, card)
-        if len(request) <= LONG or chance.often(0.05):
+        request = next_request(chance, card)
+        if request and (len(request) <= LONG or chance.often(0.05)):
             return request
 
 
@@ -39,7 +40,7 @@ def session(name: str, seed: str, taps: int, expected, **sheet) -> Recording:
         image = recording.play.image
         request, draw = some_request(chance, decode(image)), chance.randbytes(32)
         asked = ask(image, request, draw)
-        if asked.reason:
+        if asked.reason or asked.word == SW_NEED_PAUSE:
             answers = chance.randbytes(chance.choice((0, 0, 0, 1, 64)))
         else:
             answers = answers_by_chance(chance, asked.questions)
@@ -48,13 +49,15 @@ def session(name: str, seed: str, taps: int, expected, **sheet) -> Recording:
 
 
 def sessions(book: list):
-    """The seeds are such that wallets come and go, and the sums at the end are no zeros; in the last a reset is refused and accepted."""
+    """The seeds are such that wallets come and go, waits come to their end, and the sums at the end are no zeros; in the last a reset is
+    refused, waits, and is accepted."""
     spoil, usual = Chance("expectations"), dict(max="20")
-    book.append(session("taps by chance", "day 14", 300, None, **usual))
-    book.append(session("taps by chance, every seventh expectation wrong", "day 14", 98, lambda right: wrong(spoil, right), **usual))
-    book.append(session("taps by chance, ed25519", "day 17", 50, None, curve="ed25519", usecvc="1", max="5"))
-    book.append(session("taps by chance, not reusable", "day 12", 40, None, reusable="0", replay="0", setpin1="0", max="3"))
-    book.append(session("taps by chance, not activated at first", "day 5", 80, None, active="0", max="9"))
+    book.append(session("taps by chance", "day 14", 220, None, **usual))
+    book.append(session("taps by chance, every seventh expectation wrong", "day 14", 91, lambda right: wrong(spoil, right), **usual))
+    book.append(session("taps by chance, ed25519", "day 30", 50, None, curve="ed25519", usecvc="1", max="5"))
+    book.append(session("taps by chance, not reusable", "day 18", 40, None, reusable="0", replay="0", setpin1="0", max="3"))
+    book.append(session("taps by chance, a pause", "day 29", 80, None, pause="2", max="9"))
+    book.append(session("taps by chance, not activated at first", "day 73", 80, None, active="0", max="9"))
 
 
 GROUPS = (sessions,)

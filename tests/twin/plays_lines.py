@@ -1,6 +1,7 @@
 """Recordings with a bad line, one of every kind in every field; the longest lines; the most taps; ends without a line feed.
 
-Before the bad line stand some good taps, whose lines stay, and after it mostly one more, which must not be played.
+Before the bad line stand some good taps, whose lines stay, and after it mostly one more, which must not be played. Every other recording
+has a pause on its sheet, which moves all lines after it by one.
 """
 
 from twin.bench import CREATE_WALLET, DRAW, PIN1, READ_CARD, confirmed, plain, sign
@@ -30,8 +31,9 @@ def joined(*values: bytes) -> bytes:
 
 
 def bad_line(book: list, name: str, text: bytes):
-    taps = TAPS_BEFORE[len(book) % len(TAPS_BEFORE)]
-    recording = Recording(f"bad line: {name}", bad=FIRST_TAP + taps).sheet()
+    more, taps = divmod(len(book), len(TAPS_BEFORE))
+    paused, taps = more % 2, TAPS_BEFORE[taps]
+    recording = Recording(f"bad line: {name}", bad=FIRST_TAP + paused + taps).sheet(**dict(pause="60") if paused else {})
     if taps == 1:
         recording.tap(READ)
     elif taps:
@@ -161,14 +163,14 @@ def many_long_lines(book: list):
 
 def most_taps(book: list):
     """Each begins with a wallet and a SIGN, so that there is something to sum."""
-    rows = (("10000 taps", 10_000, b""), ("10001 taps", 10_001, b""), ("10000 taps, then a bad line", 10_000, b"00F2\n"),
-            ("9999 taps, then a bad line", 9_999, b"00F2\n"), ("10000 taps, then a byte", 10_000, b"0"))
-    for name, taps, after in rows:
-        bad = FIRST_TAP + min(taps, 10_000) if after or taps > 10_000 else 0
-        recording = Recording(name, bad).sheet(curve="ed25519", max="7")
-        recording.tap(confirmed(CREATE_WALLET))
-        recording.tap(sign(1))
-        recording.tap(SHORT, times=taps - 2)
+    rows = (("10000 taps", 10_000, 0, b""), ("10001 taps", 10_001, 0, b""), ("10001 taps after a pause", 10_001, 1, b""),
+            ("10000 taps, then a bad line", 10_000, 0, b"00F2\n"), ("10000 taps, then a byte", 10_000, 0, b"0"))
+    for name, taps, seconds, after in rows:
+        bad = FIRST_TAP + min(taps, 10_000) + seconds if after or taps > 10_000 else 0
+        recording = Recording(name, bad).sheet(curve="ed25519", max="7", **dict(pause=f"{seconds}") if seconds else {})
+        for sent in (confirmed(CREATE_WALLET), sign(1)):
+            recording.tap_after(seconds, sent)
+        recording.tap(SHORT, times=taps - 2 * (1 + seconds))
         if after:
             (recording.line if after.endswith(b"\n") else recording.part)(after.rstrip(b"\n"))
         book.append(recording)

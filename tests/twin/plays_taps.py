@@ -115,7 +115,7 @@ def answers_not_asked(book: list):
         recording.tap(sent, b"\1")
         recording.tap(sent, some(64, 5))
     recording = on_a_wallet(book, "answers given to refused commands are not looked at")
-    for sent in (SHORT, b"\x80" + READ[1:], plain(0xF5, (0x10, PIN1)), off_by_last(READ), CREATE, confirmed(SIGN, *hashes(11)), REPEAT):
+    for sent in (SHORT, b"\x80" + READ[1:], plain(0xF5, (0x10, PIN1)), CREATE, confirmed(SIGN, *hashes(11)), REPEAT, off_by_last(READ)):
         recording.tap(sent, some(3, 6))
 
 
@@ -218,9 +218,9 @@ def refused_signs(book: list):
     good = sign(2)
     refused = (
         good + b"\0", b"\1" + good[1:], b"\0\xfd" + good[2:], good[:2] + b"\1" + good[3:], good[:3] + b"\2" + good[4:],
-        plain(SIGN, (0x10, off_by_last(PIN1)), *hashes(2)), plain(SIGN, (0x10, PIN1), *hashes(2)), request(SIGN, *hashes(2)),
-        confirmed(SIGN, hashes(2)[0]), confirmed(SIGN, (0x50, b""), (0x51, b"\x20")), confirmed(SIGN, *hashes(11)),
-        confirmed(SIGN, (0x50, some(33)), (0x51, b"\x20")),
+        plain(SIGN, (0x10, PIN1), *hashes(2)), request(SIGN, *hashes(2)), confirmed(SIGN, hashes(2)[0]),
+        confirmed(SIGN, (0x50, b""), (0x51, b"\x20")), confirmed(SIGN, *hashes(11)), confirmed(SIGN, (0x50, some(33)), (0x51, b"\x20")),
+        plain(SIGN, (0x10, off_by_last(PIN1)), *hashes(2)),
     )
     for sent in refused:
         assert len(recording.tap(sent)) == 4, sent

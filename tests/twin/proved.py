@@ -37,6 +37,9 @@ class Proved:
     def settle(self, image, request, draw, answers, response, following) -> bytes:
         return self.call(b"S", RESULT.size, (image, request, draw, answers), (response, following))
 
+    def power_off(self, image, following) -> bytes:
+        return self.call(b"O", RESULT.size, (image,), (following,))
+
     def personalise(self, sheet, image) -> bytes:
         return self.call(b"P", NUMBER.size, (sheet,), (image,))
 

@@ -7,7 +7,10 @@ from twin.bench import (
     ACTIVATE_CARD, CHECK_WALLET, CREATE_WALLET, CURVES, NAMES, ONCE, PURGE_WALLET, READ_CARD, READ_ISSUER_DATA, READ_USER_DATA, SET_PIN,
     SIGN, STATUSES, VALIDATE_CARD, VERIFY_CARD, WRITE_ISSUER_DATA, WRITE_USER_DATA,
 )
+from twin.card import SW_NEED_PAUSE
+from twin.delay import cleared
 from twin.image import EMPTY, IMAGE_LENGTH, LOADED, PURGED, TOP_16, TOP_32, Card, decode, encode, is_card
+from twin.reached_delay import NAMES_OF_PACES, Paced, paces_of, power_offs_of
 from twin.request import fields_of, payload_of, values_of
 
 
@@ -22,8 +25,8 @@ class Call(NamedTuple):
 
 REFUSALS = (0x6700, 0x6982, 0x6985, 0x6A86, 0x6D00, 0x6E00)
 CALLS = {
-    "ask": Call("passed", range(1, 13), range(1, 4), (0x9000, *REFUSALS)),
-    "settle": Call("done", range(1, 14), range(1, 5), (0x9000, 0x9001, 0x9002, 0x9003, 0x6286, *REFUSALS)),
+    "ask": Call("passed", range(1, 13), range(1, 4), (0x9000, SW_NEED_PAUSE, *REFUSALS)),
+    "settle": Call("done", range(1, 14), range(1, 5), (0x9000, 0x9001, 0x9002, 0x9003, SW_NEED_PAUSE, 0x6286, *REFUSALS)),
 }
 NOT_ACTIVATED = 0
 STATES = {NOT_ACTIVATED: "not activated", **STATUSES}
@@ -201,10 +204,24 @@ class Reached:
             self.times["number", call, row, result.number] += 1
             return
         self.times["word", call, result.word] += 1
-        self.times["reason", call, row, result.reason] += 1
+        if result.word == SW_NEED_PAUSE:
+            self.times["waits", call, row] += 1
+        else:
+            self.times["reason", call, row, result.reason] += 1
+
+    def paced(self, one: Paced):
+        """A tap on a card, whatever came of it."""
+        self.times.update(("pace", name) for name in paces_of(one))
+        if one.goes and one.again and one.reason == 0:
+            self.times["waited", row_of(one.request)] += 1
+        if one.goes or one.refused:
+            self.tapped(one.request, one.reason, cleared(one.before), cleared(one.after))
+
+    def powered_off(self, image: bytes, off):
+        self.times.update(("pace", name) for name in power_offs_of(image, off))
 
     def tapped(self, request: bytes, reason: int, before: Card, after: Card):
-        """A tap on a card, done or refused."""
+        """Done or refused. What waits is no matter here."""
         row = row_of(request)
         if reason == 0:
             self.times["done in", row, state_of(before), before.curve] += 1
@@ -285,6 +302,17 @@ def by_tag(times: Counter) -> str:
     return table(head, rows)
 
 
+def by_wait(times: Counter) -> str:
+    """Commands against how often they had to wait, and how often they were done after it."""
+    head = ["had to wait", *CALLS, "done after it"]
+    rows = [[name, *(str(times["waits", call, ins]) for call in CALLS), str(times["waited", ins])] for ins, name in NAMES.items()]
+    return table(head, rows)
+
+
+def by_pace(times: Counter) -> str:
+    return table(["pace", "times"], [[name, str(times["pace", name])] for name in NAMES_OF_PACES])
+
+
 def by_word(times: Counter, name: str, call: Call) -> str:
     head = [f"{name}'s status word", *(f"{word:04X}" for word in call.words)]
     return table(head, [["times", *(str(times["word", name, word]) for word in call.words)]])
@@ -296,7 +324,7 @@ def by_end(times: Counter) -> str:
 
 def tables(times: Counter) -> str:
     of_calls = [by(times, *call) for by in (by_check, by_word) for call in CALLS.items()]
-    return "\n\n".join((*of_calls, by_state(times), by_tag(times), by_end(times)))
+    return "\n\n".join((*of_calls, by_state(times), by_tag(times), by_wait(times), by_pace(times), by_end(times)))
 
 
 # ---------------------------------------------------------------- what was to be reached
@@ -310,6 +338,7 @@ def wanted_of(name: str, call: Call) -> dict:
                  for check in refusals & {*call.checks}}
     for ins, command in NAMES.items():
         keys["reason", name, ins, 0] = f"{name}: {command} {call.passed}"
+        keys["waits", name, ins] = f"{name}: {command} has to wait"
         keys |= {("number", name, ins, number): f"{name}: {command} with number {number}" for number in call.numbers}
     return keys
 
@@ -325,6 +354,8 @@ def wanted() -> dict:
     for ins, once in ONCE.items():
         keys |= {("twice", ins, tag): f"{NAMES[ins]} refused with {tag:02X} twice" for tag in once}
         keys["repeated", ins] = f"{NAMES[ins]} done with a tag twice that it does not read"
+        keys["waited", ins] = f"{NAMES[ins]} done after a wait"
+    keys |= {("pace", name): name for name in NAMES_OF_PACES}
     return keys | {("end", name): name for name in END_NAMES}
 
 

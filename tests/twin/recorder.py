@@ -13,12 +13,17 @@ USUAL_SHEET = dict(
 
 
 def sheet_lines(**values) -> list:
-    """The lines of the usual sheet, but for the values given, each without its line feed."""
+    """The lines of the usual sheet, but for the values given, each without its line feed. A `pause` comes last."""
     return [f"{name}\t{value}".encode() for name, value in {**USUAL_SHEET, **values}.items()]
 
 
 def tap_line(request: bytes, draw: bytes, answers: bytes, expected: str) -> bytes:
     return "\t".join((hexed(request), hexed(draw), hexed(answers), expected)).encode()
+
+
+def waiting(seconds: int) -> str:
+    """Pause, in units of 10 ms, and its status word."""
+    return f"1C02{100 * seconds:04X}9789"
 
 
 class Recording:
@@ -60,6 +65,13 @@ class Recording:
             expected = expected(response)
         self.line(tap_line(*sent, expected), times)
         return response
+
+    def tap_after(self, seconds: int, request: bytes, answers: bytes = None) -> str:
+        """A request that has to wait so long, sent as often, and once more. The answers are those of every sending."""
+        for left in range(seconds, 0, -1):
+            response = self.tap(request, answers)
+            assert response == waiting(left), (self.name, left, response)
+        return self.tap(request, answers)
 
     def fitting(self, request: bytes, draw: bytes) -> bytes:
         return self.provider.answers(ask(self.play.image, request, draw).questions)

@@ -9,7 +9,7 @@ from twin.card import personalise, settle
 from twin.commands import HASH_LENGTH
 from twin.image import decode
 from twin.request import Tag, fields_of, number, payload_of
-from twin.sheet import SHEET
+from twin.sheet import PAUSE, SHEET, one_line
 
 LONGEST_LINE = 8192
 MOST_TAPS = 10_000
@@ -78,18 +78,25 @@ def bad_line(at: int) -> str:
     return f"line\t{at}\n"
 
 
+def sheet_length(lines: list) -> int:
+    """How many of the file's first lines are the sheet's: line 15 where it is exactly a pause, else it is the first tap."""
+    return len(SHEET) + any(one_line(*PAUSE, line) for line in lines[len(SHEET) :][:1])
+
+
 def played(text: bytes) -> bytes:
     """All that a play of this file prints."""
     lines = lines_of(text)
-    bad, image = personalise(b"".join(lines[: len(SHEET)]))
-    return (bad_line(bad) if bad else "".join(played_taps(Play(image), lines[len(SHEET) :]))).encode()
+    sheet = sheet_length(lines)
+    bad, image = personalise(b"".join(lines[:sheet]))
+    return (bad_line(bad) if bad else "".join(played_taps(Play(image), lines[sheet:], sheet + 1))).encode()
 
 
-def played_taps(play: Play, lines: list):
+def played_taps(play: Play, lines: list, first: int):
+    """What is printed for the lines after the sheet, the first of them being this one of the file."""
     for tap, line in enumerate(lines, 1):
         parts = parts_of(line)
         if parts is None or tap > MOST_TAPS:
-            yield bad_line(len(SHEET) + tap)
+            yield bad_line(first + tap - 1)
             return
         *sent, expected = parts
         response = play.tap(*sent)

@@ -1,7 +1,7 @@
 """The program `taps` over the twin. It reads the case file alone, and so shows that the file says all it means."""
 
 from twin import card as twin
-from twin.script import STANDARD_ROOMS, asked_line, settled_line
+from twin.script import STANDARD_ROOMS, asked_line, powered_off_line, settled_line
 
 
 class Replay:
@@ -15,7 +15,8 @@ class Replay:
         if line.startswith("#"):
             return line + "\n"
         letter, *parts = line.split("\t")
-        return {"I": self.new, "W": self.overwrite, "L": self.lend, "A": self.ask, "S": self.settle}[letter](*parts)
+        steps = {"I": self.new, "W": self.overwrite, "L": self.lend, "A": self.ask, "S": self.settle, "O": self.power_off}
+        return steps[letter](*parts)
 
     def new(self, image: str) -> str:
         self.image = bytes.fromhex(image)
@@ -37,3 +38,8 @@ class Replay:
         before, settled = self.image, twin.settle(self.image, *map(bytes.fromhex, parts), *self.rooms[1:])
         self.image = before if settled.image is None else settled.image
         return settled_line(settled, before) + "\n"
+
+    def power_off(self) -> str:
+        before, off = self.image, twin.power_off(self.image, self.rooms[2])
+        self.image = before if off.image is None else off.image
+        return powered_off_line(off, before) + "\n"

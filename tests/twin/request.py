@@ -2,7 +2,7 @@
 
 from typing import Optional
 
-from twin.image import Card
+from twin.image import LONGEST_REQUEST, SHORTEST_REQUEST, Card
 
 
 class Tag:
@@ -20,6 +20,7 @@ class Tag:
     SALT = 0x17
     CARD_VALIDATION_COUNTER = 0x18
     CVC = 0x19
+    PAUSE = 0x1C
     MODE = 0x23
     USER_DATA = 0x2A
     USER_PROTECTED_DATA = 0x2B
@@ -51,7 +52,7 @@ def number(value: bytes) -> int:
 
 def payload_of(request: bytes) -> Optional[bytes]:
     """The payload, or None where the length or Lc is wrong."""
-    if not 6 <= len(request) <= 1024:
+    if not SHORTEST_REQUEST <= len(request) <= LONGEST_REQUEST:
         return None
     start = 7 if request[4] == 0 else 5
     length = number(request[5:7]) if request[4] == 0 else request[4]

@@ -32,11 +32,19 @@ def asked_line(asked: twin.Asked) -> str:
     return f"A\t{asked.number}\t{asked.reason}\t{asked.word:04X}\t{len(written)}\t{hexed(written)}"
 
 
+def changes(before: bytes, after) -> str:
+    changed = [] if after is None else runs(before, after)
+    return " ".join(f"{offset:04X}:{hexed(new)}" for offset, new in changed)
+
+
 def settled_line(settled: twin.Settled, before: bytes) -> str:
     written = settled.response
-    changed = [] if settled.image is None else runs(before, settled.image)
-    changes = " ".join(f"{offset:04X}:{hexed(new)}" for offset, new in changed)
-    return f"S\t{settled.number}\t{settled.reason}\t{settled.word:04X}\t{len(written)}\t{hexed(written)}\t{changes}"
+    head = f"S\t{settled.number}\t{settled.reason}\t{settled.word:04X}\t{len(written)}"
+    return f"{head}\t{hexed(written)}\t{changes(before, settled.image)}"
+
+
+def powered_off_line(off: twin.Settled, before: bytes) -> str:
+    return f"O\t{off.number}\t{off.reason}\t{off.word:04X}\t{len(off.response)}\t{changes(before, off.image)}"
 
 
 class Script:
@@ -44,7 +52,7 @@ class Script:
         self.stdin, self.stdout = [], []
         self.image, self.rooms = b"", STANDARD_ROOMS
         self.provider = Provider()
-        self.calls, self.reasons = Counter(), Counter()
+        self.calls, self.reasons, self.waits = Counter(), Counter(), Counter()
 
     def line(self, *parts: str):
         self.stdin.append("\t".join(parts))
@@ -88,13 +96,25 @@ class Script:
         self.stdout.append(settled_line(settled, self.image))
         self.image = self.image if settled.image is None else settled.image
         self.calls["S"] += 1
-        self.reasons[request[1] if len(request) > 1 else None, settled.number, settled.reason] += 1
+        ins = request[1] if len(request) > 1 else None
+        if settled.word == twin.SW_NEED_PAUSE:
+            self.waits[ins] += 1
+        else:
+            self.reasons[ins, settled.number, settled.reason] += 1
         return settled
 
+    def power_off(self) -> twin.Settled:
+        off = twin.power_off(self.image, self.rooms[2])
+        self.line("O")
+        self.stdout.append(powered_off_line(off, self.image))
+        self.image = self.image if off.image is None else off.image
+        self.calls["O"] += 1
+        return off
+
     def tap(self, request: bytes, draw: bytes = DRAW) -> twin.Settled:
-        """Both calls. A command that passes gets fitting answers, a refused one gets bytes that fit nothing."""
+        """Both calls. A command that passes gets fitting answers, one that is refused or has to wait gets bytes that fit nothing."""
         asked = self.ask(request, draw)
-        answers = b"\xee" if asked.reason else self.provider.answers(asked.questions)
+        answers = b"\xee" if asked.reason or asked.word == twin.SW_NEED_PAUSE else self.provider.answers(asked.questions)
         return self.settle(request, answers, draw)
 
     def case(self, words: str, card, *requests: bytes) -> twin.Settled:

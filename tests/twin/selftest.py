@@ -4,7 +4,7 @@ import os
 import sys
 
 sys.path.insert(0, os.path.dirname(os.path.dirname(os.path.abspath(__file__))))
-from twin import selftest_activation, selftest_handover, selftest_plays, selftest_reasons, selftest_twice
+from twin import selftest_activation, selftest_delay, selftest_handover, selftest_plays, selftest_reasons, selftest_twice
 from twin.by_hand import (
     ACCESS, CHALLENGE, CID, CID_FIELD, CONFIRMED, FRESH, KEY, KEY_CHALLENGE, KEY_SALT, PIN1, PIN2, SALT, SEED, SHEET_LINES,
     WITH_WALLET, WRITTEN, hashes, questions, refused, sheet, tapped, word_of,
@@ -30,7 +30,7 @@ def sheet_makes_a_fresh_card():
     card = decode(image)
     assert answer == 0 and is_card(image) and card.cvc == b"007" and card.max_signatures == TOP
     assert (card.curve, card.cvc_used, card.activated, card.status) == (2, 1, 0, EMPTY)
-    assert image[80:96].hex().upper() == SEED and image[96:103].hex() == "01010101000100" and image[103:] == b"\1" + bytes(2341)
+    assert image[80:96].hex().upper() == SEED and image[96:104].hex() == "0001010101000100" and image[104:] == b"\1" + bytes(3369)
 
 
 def sheet_bad_lines():
@@ -257,7 +257,7 @@ def what_is_a_card():
     for change in changes:
         assert not is_card(encode(WITH_WALLET._replace(**change))), change
     # Set to 11: a counter's byte, a length of 11 (zeros are data too), lengths of 2,816, eleven signatures.
-    for place, still in ((180, True), (195, True), (708, False), (1222, False), (1804, False)):
+    for place, still in ((181, True), (196, True), (709, False), (1223, False), (2833, False)):
         image = bytearray(encode(FRESH))
         image[place] = 11
         assert is_card(bytes(image)) == still, place
@@ -270,7 +270,8 @@ TESTS = (
     slip_repeat_is_free,
     read_card, create_wallet, check_wallet, set_pin, verify_card, validate_card, purge_wallet, user_data,
     read_issuer_data, what_is_a_card,
-    *selftest_reasons.TESTS, *selftest_twice.TESTS, *selftest_handover.TESTS, *selftest_activation.TESTS, *selftest_plays.TESTS,
+    *selftest_reasons.TESTS, *selftest_twice.TESTS, *selftest_handover.TESTS, *selftest_activation.TESTS, *selftest_delay.TESTS,
+    *selftest_plays.TESTS,
 )
 
 

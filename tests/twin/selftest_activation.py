@@ -56,7 +56,7 @@ def activation_by_the_byte():
         for payload, pin1 in ((KEEP, before[:32]), (RESET, bytes.fromhex(DEFAULT))):
             settled = settle(before, request("FE", own(card, payload)), bytes(32), b"\1")
             assert settled[:3] == (0, 0, 0x9000) and settled.response.hex().upper() == response, card
-            assert settled.image == pin1 + before[32:102] + b"\1" + before[103:] and is_card(settled.image), card
+            assert settled.image == pin1 + before[32:103] + b"\1" + before[104:] and is_card(settled.image), card
             assert settled == settle(before, request("FE", own(card, payload)), bytes.fromhex(DRAW), b"\1"), "the draw is not used"
 
 
@@ -75,7 +75,7 @@ def activation_checks():
     """PIN1, CID, fields, and no activated card, whatever its Status; PIN2 and the CVC are not read."""
     bad = "360102"
     refused_by(5, 0x6A86, ASLEEP, request("FE", "1020" + PIN2 + bad + bad))
-    refused_by(6, 0x6A86, ASLEEP, request("FE", "1020" + PIN2 + bad))
+    refused_by(6, 0x6A86, ASLEEP, request("FE", "1020" + PIN2 + bad), counted=1)
     refused_by(7, 0x6A86, ASLEEP, request("FE", "1020" + PIN1 + bad))
     purged = FRESH._replace(reusable=0, status=PURGED, wallet_number=1)
     for card in (FRESH, WITH_WALLET, WITH_WALLET._replace(remaining=0), purged):
@@ -113,7 +113,7 @@ def after_activation():
     assert tapped(kept, "F2", "1020" + PIN1)[0] == tapped(reset, "F2", "1020" + DEFAULT)[0] == AWAKE
     for payload in (KEEP, RESET):
         refused_by(12, 0x6985, kept, request("FE", payload))
-        refused_by(6, 0x6A86, reset, request("FE", payload))
+        refused_by(6, 0x6A86, reset, request("FE", payload), counted=1)
         refused_by(12, 0x6985, reset, request("FE", payload.replace(PIN1, DEFAULT)))
 
 
@@ -121,18 +121,18 @@ def under_the_reset_pin1():
     """In force from the next command; PIN2 is what it was."""
     card = tapped(ASLEEP, "FE", RESET, "01")[1]
     card = tapped(card, "F8", UNDER_DEFAULT + "1120" + PIN2, KEY)[1]
-    refused_by(6, 0x6A86, card, request("FB", CONFIRMED + hashes(1)))
+    refused_by(6, 0x6A86, card, request("FB", CONFIRMED + hashes(1)), counted=1)
     response, _ = tapped(card, "FB", UNDER_DEFAULT + "1120" + PIN2 + hashes(1), "77" * 64)
     assert response == CID_FIELD + "6140" + "77" * 64 + "620400000006" + "630400000001" + "9000"
 
 
 def images_and_seeds():
-    """Any 16 bytes are a seed; without them it is the image of before, and no card; not activated is Empty, with no wallet ever."""
+    """Any 16 bytes are a seed; without them it is no card; not activated is Empty, with no wallet ever."""
     for seed in (bytes(16), b"\xff" * 16, bytes(range(16)), b"\0" * 15 + b"\1"):
         for card in (FRESH, ASLEEP, WITH_WALLET):
             image = encode(card._replace(activation_seed=seed))
-            assert is_card(image) and len(image) == 2445 and image[80:96] == seed, seed
-            assert not is_card(image[:80] + image[96:]) and len(image[:80] + image[96:]) == 2429
+            assert is_card(image) and len(image) == 3474 and image[80:96] == seed, seed
+            assert not is_card(image[:80] + image[96:])
     for change in (dict(wallet_number=1), dict(status=PURGED, wallet_number=1, reusable=0), dict(activated=2),
                    dict(status=LOADED, wallet_number=1, wallet_public_key=bytes.fromhex(KEY))):
         assert not is_card(encode(ASLEEP._replace(**change))), change

@@ -26,8 +26,8 @@ def purge_by_the_byte():
         for reusable, status in ((1, b"\1"), (0, b"\3")):
             before = encode(SIGNED._replace(reusable=reusable, **change))
             after = settle(before, PURGE, bytes(32), b"").image
-            assert after == (before[:103] + status + before[104:106] + bytes(4) + before[110:114] + bytes(66)
-                             + before[180:1804] + bytes(641)), (change, reusable)
+            assert after == (before[:104] + status + before[105:107] + bytes(4) + before[111:115] + bytes(66)
+                             + before[181:2833] + bytes(641)), (change, reusable)
             assert is_card(after), (change, reusable)
 
 
@@ -88,7 +88,7 @@ def signatures_of_a_wallet():
         for count in range(11):
             assert is_card(encode(card._replace(last_signatures=b"\x99" * 64 * count))), count
         image = encode(card._replace(last_signatures=b"\x99" * 640))
-        assert not is_card(image[:1804] + b"\x0b" + image[1805:])
+        assert not is_card(image[:2833] + b"\x0b" + image[2834:])
 
 
 TESTS = (

@@ -1,7 +1,7 @@
 """Checks of the twin's play of recordings against lines worked out by hand. selftest.py runs them."""
 
 from twin.bench import DEFAULT_PIN1
-from twin.by_hand import ACCESS, CID_FIELD, CONFIRMED, DRAW, KEY, PIN1, SEED, hashes, request, sheet
+from twin.by_hand import ACCESS, CID_FIELD, CONFIRMED, DRAW, KEY, PIN1, PIN2, SEED, hashes, request, sheet
 from twin.recording import played
 
 READ_EMPTY = CID_FIELD + "020101" + "0509736563703235366B31" + "630400000000" + "9000"
@@ -28,6 +28,11 @@ def create(expected: str = CREATED) -> tuple:
 
 def sign(count: int, expected: str) -> tuple:
     return tap("FB", CONFIRMED + hashes(count), "77" * 64 * count, expected)
+
+
+def waiting(seconds: int) -> str:
+    """What is answered while so many seconds are left, in units of 10 ms."""
+    return f"1C02{100 * seconds:04X}9789"
 
 
 def recording(*taps, **changed) -> bytes:
@@ -87,9 +92,10 @@ def play_activation():
     activate = tap("FE", ACCESS + fields, "01", READ_EMPTY)
     late = [tap(ins, payload.replace(PIN1, default), answers, expected) for ins, payload, answers, expected in (
         ("F8", CONFIRMED, KEY, CREATED), ("FB", CONFIRMED + hashes(2), "77" * 128, signed(2, 6, 2)), ("FE", ACCESS + fields, "EE", "6985"))]
+    waits = late[0][0], "EE", waiting(1)
     asleep = create("6985"), tap("FE", ACCESS + fields, "00", "6286"), tap("FE", ACCESS + fields, "02", "4")
     all_same(NO_SUMS, *asleep, activate, active="0")
-    all_same("6\t2\t1\t2\n", *asleep, activate, create("6A86"), *late, sign(1, "6A86"), active="0")
+    all_same("6\t2\t1\t2\n", *asleep, activate, create("6A86"), waits, *late, sign(1, "6A86"), active="0")
     all_same(NO_SUMS, tap("FE", ACCESS + fields, "01", "6985"))
 
 
@@ -98,6 +104,33 @@ def play_refusal_4():
     all_same("6\t2\t1\t2\n", create(), unanswered, sign(2, signed(2, 6, 2)), unanswered)
     prints(recording(tap("F2", "1020" + PIN1, "00", "9000"), tap("F2", "1020" + PIN1, "", "4")),
            "1\tother\t4\n", f"2\tother\t{READ_EMPTY}\n", NO_SUMS)
+
+
+def play_waits():
+    """A pause of three seconds and a wrong code make four. What waits makes nothing, and its answers are not looked at."""
+    two, other = sign(2, "")[0], tap("FB", ACCESS + "1120" + PIN1 + hashes(2), "", "6A86")
+    pause = [(create()[0], "", expected) for expected in ("1C02012C9789", "1C0200C89789", "1C0200649789")] + [create()]
+    all_same("7\t0\t0\t0\n", *pause, pause="3")
+    longer = [(two, "EE", waiting(seconds)) for seconds in (4, 3, 2, 1)] + [(two, "", "4"), sign(2, signed(2, 6, 2))]
+    all_same("6\t2\t1\t2\n", *pause, other, *longer, pause="3")
+    all_same("7\t0\t0\t0\n", *pause, other, longer[0], SHORT, *longer[:3], pause="3")
+    read = tap("F2", "1020" + PIN1, "", READ_EMPTY)
+    all_same(NO_SUMS, pause[0], pause[1], read, pause[0], pause[1], read, pause="3")
+    all_same(NO_SUMS, tap("F2", "1020" + PIN2, "", "6A86"), (read[0], "AB", waiting(1)), read, read)
+
+
+def play_pause_lines():
+    """A pause as line 15, to the byte, belongs to the sheet: then the first tap is line 16. Any other line 15 is the first tap."""
+    for seconds in ("0", "9", "59", "60"):
+        all_same(NO_SUMS, SHORT, pause=seconds)
+        for end in (f"pause\t{seconds}\n", "\n", "pause", SHORT_LINE):
+            prints(sheet(pause=seconds) + end.encode(), "line\t16\n")
+            prints(recording(SHORT, pause=seconds) + end.encode(), "1\tsame\t6700\n", "line\t17\n")
+            prints(recording(SHORT) + end.encode(), "1\tsame\t6700\n", "line\t16\n")
+    for row in ("pause\t61\n", "pause\t05\n", "pause\t\n", "pause\t5\r\n", "Pause\t5\n", "pause 5\n", "pause\t5"):
+        prints(sheet() + row.encode() + SHORT_LINE.encode() + b"\n", "line\t15\n")
+    prints(sheet().replace(b"seed", b"pause\t5\nseed"), "line\t14\n")
+    prints(recording(SHORT, max="0", pause="5"), "line\t6\n")
 
 
 def play_others():
@@ -145,9 +178,11 @@ def play_many_taps():
     lines = [f"{n}\tsame\t6700\n" for n in range(1, 10_001)]
     prints(recording(*[SHORT] * 10_000), *lines, NO_SUMS)
     prints(recording(*[SHORT] * 10_001), *lines, "line\t10015\n")
+    prints(recording(*[SHORT] * 10_001, pause="60"), *lines, "line\t10016\n")
 
 
 TESTS = (
     play_reads, play_sums, play_sums_of_wallets, play_repeats_of_wallets, play_refused_signs, play_new_codes, play_activation,
-    play_refusal_4, play_others, play_bad_lines, play_bad_sheets, play_last_line_feed, play_long_lines, play_many_taps,
+    play_refusal_4, play_waits, play_pause_lines, play_others, play_bad_lines, play_bad_sheets, play_last_line_feed, play_long_lines,
+    play_many_taps,
 )

@@ -22,17 +22,18 @@ def numbers_in_order():
     assert settle(good, request("F6", WRITTEN + "350400000001"), bytes(32), b"\2") == settled[4]
 
 
-def refused_by(check: int, word: int, card: Card, sent: bytes):
-    """Both calls name the check and its word."""
+def refused_by(check: int, word: int, card: Card, sent: bytes, counted: int = 0):
+    """Both calls name the check and its word; the card stays, but for a wrong code counted."""
     image, draw = encode(card), bytes(32)
+    left = encode(card._replace(wrong_codes=card.wrong_codes + counted))
     assert ask(image, sent, draw) == (0, check, word, b""), (check, sent.hex())
-    assert settle(image, sent, draw, b"\xee") == (0, check, word, word.to_bytes(2, "big"), image), (check, sent.hex())
+    assert settle(image, sent, draw, b"\xee") == (0, check, word, word.to_bytes(2, "big"), left), (check, sent.hex())
 
 
 def reasons():
     rows = (("00F2000000", 1, 0x6700), ("80F200000110", 2, 0x6E00), ("00F500000110", 3, 0x6D00),
             ("00F200010110", 4, 0x6982), ("00F2FF020110", 4, 0x6982), ("00F2FF000110", 4, 0x6A86), ("00F200030110", 4, 0x6A86),
-            ("00F200000110", 5, 0x6A86), ("00F20000021000", 6, 0x6A86), ("00F30000221020" + PIN1, 7, 0x6A86))
+            ("00F200000110", 5, 0x6A86), ("00F20000020100", 6, 0x6A86), ("00F30000221020" + PIN1, 7, 0x6A86))
     for request_hex, check, word in rows:
         refused_by(check, word, FRESH, bytes.fromhex(request_hex))
     not_active = FRESH._replace(activated=0)
@@ -48,7 +49,7 @@ def reasons():
 def reasons_of_codes():
     """A code or CID of another length is one that is not equal, and no unfit field. PIN2 and the CVC have one number."""
     for pin1 in ("", "1000", "101F" + PIN1[2:], "1021" + PIN1 + "00"):
-        refused_by(6, 0x6A86, FRESH, request("F3", pin1 + CID_FIELD))
+        refused_by(6, 0x6A86, FRESH, request("F3", pin1 + CID_FIELD), counted=int(pin1 != ""))
     for cid in ("", "0100", "0107" + CID[:-2], "0109" + CID + "00"):
         refused_by(7, 0x6A86, FRESH, request("F3", "1020" + PIN1 + cid))
     pins = "1120" + PIN2, "", "1100", "111F" + PIN2[2:], "1121" + PIN2 + "00", "1120" + PIN1
@@ -57,7 +58,8 @@ def reasons_of_codes():
     for pin2 in pins:
         for cvc in cvcs:
             check = 11 if (pin2, cvc) == (pins[0], cvcs[0]) else 10
-            refused_by(check, 0x6A86, asking, request("FB", ACCESS + pin2 + cvc + "5000"))
+            wrong = cvc if pin2 == pins[0] else pin2
+            refused_by(check, 0x6A86, asking, request("FB", ACCESS + pin2 + cvc + "5000"), counted=int(check == 10 and wrong != ""))
 
 
 def reasons_of_fields():

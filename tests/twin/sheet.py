@@ -1,4 +1,4 @@
-"""The personalisation sheet: fourteen lines, and the fresh card that they describe."""
+"""The personalisation sheet: fourteen lines and one that may follow, and the fresh card that they describe."""
 
 import re
 
@@ -21,7 +21,9 @@ SHEET = (
     (b"active", FLAG),
     (b"seed", rb"[0-9A-F]{32}"),
 )
+PAUSE = (b"pause", rb"[0-9]|[1-5][0-9]|60")  # line 15, if it is there
 AFTER_SHEET = len(SHEET) + 1
+AFTER_PAUSE = AFTER_SHEET + 1
 NO_ROOM = 99
 IMAGE_ROOM = 4096
 
@@ -32,20 +34,28 @@ def personalise(sheet: bytes, room: int = IMAGE_ROOM) -> tuple:
         return NO_ROOM, None
     values = []
     for line, (name, form) in enumerate(SHEET, 1):
-        found = re.match(name + rb"\t(" + form + rb")\n", sheet)
+        found = one_line(name, form, sheet)
         if not found or (name == b"max" and int(found[1]) > TOP_32):
             return line, None
         values.append(found[1])
         sheet = sheet[found.end() :]
-    if sheet:
+    pause = one_line(*PAUSE, sheet)
+    if sheet and not pause:
         return AFTER_SHEET, None
-    return 0, encode(fresh_card(*values))
+    if pause and pause.end() < len(sheet):
+        return AFTER_PAUSE, None
+    return 0, encode(fresh_card(*values, int(pause[1]) if pause else 0))
 
 
-def fresh_card(cid, pin1, pin2, cvc, curve, most, *flags_and_seed) -> Card:
+def one_line(name: bytes, form: bytes, text: bytes):
+    """The line of this name and form at the start of the text, with its line feed."""
+    return re.match(name + rb"\t(" + form + rb")\n", text)
+
+
+def fresh_card(cid, pin1, pin2, cvc, curve, most, *rest) -> Card:
     def unhex(digits):
         return bytes.fromhex(digits.decode())
 
     named = {name: value for value, name in CURVE_NAME.items()}
-    *flags, seed = flags_and_seed
-    return Card(unhex(pin1), unhex(pin2), unhex(cid), cvc, named[curve], int(most), unhex(seed), *map(int, flags))
+    *flags, seed, pause = rest
+    return Card(unhex(pin1), unhex(pin2), unhex(cid), cvc, named[curve], int(most), unhex(seed), pause, *map(int, flags))

@@ -8,6 +8,10 @@ use Rattle.card.proofs.Wallet.purge as wallet-purge
 use Rattle.card.proofs.Counters.signed as counters-signed
 use Rattle.card.proofs.Counters.checked as counters-checked
 use Rattle.card.proofs.Counters.validated as counters-validated
+use Rattle.card.proofs.Wait.none as wait-none
+use Rattle.card.proofs.Wait.dropped as wait-dropped
+use Rattle.card.proofs.Wait.counted as wait-counted
+use Rattle.card.proofs.Wait.holding as wait-holding
 use Rattle.card.proofs.Card.fresh as card-fresh
 
 pub flags-activate-one : OneOutcome flags-activate.ended (λ M. flags-activate.clauses {M = M})
@@ -30,6 +34,18 @@ counters-checked-one M 𝓤 H A m r κs a g z z′ ws ws′ = plain 𝓤 (λ p q
 
 pub counters-validated-one : OneOutcome counters-validated.ended (λ M. counters-validated.clauses {M = M})
 counters-validated-one M 𝓤 H A m r κs a g z z′ ws ws′ = plain 𝓤 (λ p q. one-equal p q)
+
+pub wait-none-one : OneOutcome wait-none.ended (λ M. wait-none.clauses {M = M})
+wait-none-one M 𝓤 H A m r κs a g z z′ ws ws′ = plain 𝓤 (λ p q. one-equal p q)
+
+pub wait-dropped-one : OneOutcome wait-dropped.ended (λ M. wait-dropped.clauses {M = M})
+wait-dropped-one M 𝓤 H A m r κs a g z z′ ws ws′ = plain 𝓤 (λ p q. one-equal p q)
+
+pub wait-counted-one : OneOutcome wait-counted.ended (λ M. wait-counted.clauses {M = M})
+wait-counted-one M 𝓤 H A m r κs a g z z′ ws ws′ = plain 𝓤 (λ p q. one-equal p q)
+
+pub wait-holding-one : OneOutcome wait-holding.ended (λ M. wait-holding.clauses {M = M})
+wait-holding-one M 𝓤 H A m r κs a g z z′ ws ws′ = plain 𝓤 (λ p q. one-equal p q)
 
 pub card-fresh-one : OneOutcome card-fresh.ended (λ M. card-fresh.clauses {M = M})
 card-fresh-one M 𝓤 H A m r κs a g z z′ ws ws′ = plain 𝓤 (λ p q. one-equal p q)

@@ -11,13 +11,15 @@ use Rattle.card.specs.declared.Key.{Key}
 use Rattle.card.specs.declared.Counters.{Counters}
 use Rattle.card.specs.declared.Block.{Block}
 use Rattle.card.specs.declared.Issuer.{Issuer}
+use Rattle.card.specs.declared.Wait.{Wait}
+use Rattle.card.specs.declared.Pending.{Pending}
 use Rattle.card.specs.declared.Last.{Last}
 use Rattle.card.specs.declared.Front.{Front}
 use Rattle.card.specs.declared.Held.{Held}
 use Rattle.card.specs.declared.Face.{Face}
 use Rattle.card.specs.declared.Card.{Card}
-use Rattle.card.specs.Layout.{pinSize, cidSize, cvcSize, seedSize, keyRoom, dataRoom, signatureSize, lastRoom, blockWidth}
-use Rattle.card.specs.Layout.{codesAt, fixedAt, flagsAt, walletAt, keyAt, countersAt, userAt, protectedAt, issuerAt, lastAt}
+use Rattle.card.specs.Layout.{pinSize, cidSize, cvcSize, seedSize, keyRoom, dataRoom, signatureSize, heldRoom, lastRoom, blockWidth}
+use Rattle.card.specs.Layout.{codesAt, fixedAt, pauseAt, flagsAt, walletAt, keyAt, countersAt, userAt, protectedAt, issuerAt, pendingAt, lastAt}
 
 unfoldable pub encCodes : Codes → List ℕ
 encCodes x = x .pin1 ++ x .pin2
@@ -26,7 +28,7 @@ abbrev pub decCodes : List ℕ → Codes
 decCodes l = record { pin1 = part l codesAt pinSize; pin2 = part l (codesAt + pinSize) pinSize }
 
 unfoldable pub encFixed : Fixed → List ℕ
-encFixed x = x .cid ++ x .cvc ++ be1 (x .curve) ++ be4 (x .max) ++ x .seed
+encFixed x = x .cid ++ x .cvc ++ be1 (x .curve) ++ be4 (x .max) ++ x .seed ++ be1 (x .pause)
 
 abbrev pub decFixed : List ℕ → Fixed
 decFixed l =
@@ -36,6 +38,7 @@ decFixed l =
       curve = getD l (fixedAt + 11) 0;
       max = num32 l (fixedAt + 12);
       seed = part l (fixedAt + 16) seedSize;
+      pause = getD l pauseAt 0;
     }
 
 unfoldable pub encFlags : Flags → List ℕ
@@ -97,6 +100,18 @@ decIssuer l =
       counter = num32 l (issuerAt + blockWidth + signatureSize);
     }
 
+unfoldable pub encWait : Wait → List ℕ
+encWait x = be1 (x .wrong) ++ be1 (x .left) ++ be2 (x .size)
+
+abbrev pub decWait : List ℕ → Wait
+decWait l = record { wrong = getD l pendingAt 0; left = getD l (pendingAt + 1) 0; size = num16 l (pendingAt + 2) }
+
+unfoldable pub encPending : Pending → List ℕ
+encPending x = encWait (x .wait) ++ x .request
+
+abbrev pub decPending : List ℕ → Pending
+decPending l = record { wait = decWait l; request = part l (pendingAt + 4) heldRoom }
+
 unfoldable pub encLast : Last → List ℕ
 encLast x = be1 (x .count) ++ x .signatures
 
@@ -116,10 +131,10 @@ abbrev pub decHeld : List ℕ → Held
 decHeld l = record { user = decBlock userAt l; protected = decBlock protectedAt l; issuer = decIssuer l }
 
 unfoldable pub encFace : Face → List ℕ
-encFace x = encFront (x .front) ++ encHeld (x .held) ++ encLast (x .last)
+encFace x = encFront (x .front) ++ encHeld (x .held) ++ encPending (x .pending) ++ encLast (x .last)
 
 abbrev pub decFace : List ℕ → Face
-decFace l = record { front = decFront l; held = decHeld l; last = decLast l }
+decFace l = record { front = decFront l; held = decHeld l; pending = decPending l; last = decLast l }
 
 -- THE IMAGE of a card, and the card that bytes spell; whether it is one says `isCard`
 unfoldable pub encode : Card → List ℕ

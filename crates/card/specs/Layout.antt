@@ -2,7 +2,7 @@
 -- `card` has constants of the same names. Assumes nothing.
 use Prim.Native.Nat.{ℕ, _+_, _*_}
 
--- LIMITS, 01 "What the card is made of"; the seed, 02 Ask 1
+-- LIMITS, 01 "What the card is made of"; the seed, 02 Ask 1; the delay, 02 Ask 7
 abbrev pub pinSize : ℕ
 pinSize = 32
 
@@ -35,6 +35,23 @@ mostHashes = 10
 abbrev pub lastRoom : ℕ
 lastRoom = mostHashes * signatureSize
 
+-- a request that is held, of 6 to 1,024 bytes
+abbrev pub leastHeld : ℕ
+leastHeld = 6
+
+abbrev pub heldRoom : ℕ
+heldRoom = 1024
+
+-- the most seconds of a pause, wrong codes that are counted, and seconds that are left
+abbrev pub mostPause : ℕ
+mostPause = 60
+
+abbrev pub mostWrong : ℕ
+mostWrong = 60
+
+abbrev pub mostLeft : ℕ
+mostLeft = mostPause + mostWrong
+
 -- the tops of the counters
 abbrev pub top16 : ℕ
 top16 = 65535
@@ -47,7 +64,7 @@ abbrev pub codesWidth : ℕ
 codesWidth = pinSize + pinSize
 
 abbrev pub fixedWidth : ℕ
-fixedWidth = cidSize + cvcSize + 1 + 4 + seedSize
+fixedWidth = cidSize + cvcSize + 1 + 4 + seedSize + 1
 
 abbrev pub flagsWidth : ℕ
 flagsWidth = 7
@@ -67,6 +84,9 @@ blockWidth = 2 + dataRoom
 abbrev pub issuerWidth : ℕ
 issuerWidth = blockWidth + signatureSize + 4
 
+abbrev pub pendingWidth : ℕ
+pendingWidth = 1 + 1 + 2 + heldRoom
+
 abbrev pub lastWidth : ℕ
 lastWidth = 1 + lastRoom
 
@@ -76,6 +96,10 @@ codesAt = 0
 
 abbrev pub fixedAt : ℕ
 fixedAt = codesAt + codesWidth
+
+-- the last byte of what is fixed
+abbrev pub pauseAt : ℕ
+pauseAt = fixedAt + cidSize + cvcSize + 1 + 4 + seedSize
 
 abbrev pub flagsAt : ℕ
 flagsAt = fixedAt + fixedWidth
@@ -98,8 +122,11 @@ protectedAt = userAt + blockWidth
 abbrev pub issuerAt : ℕ
 issuerAt = protectedAt + blockWidth
 
+abbrev pub pendingAt : ℕ
+pendingAt = issuerAt + issuerWidth
+
 abbrev pub lastAt : ℕ
-lastAt = issuerAt + issuerWidth
+lastAt = pendingAt + pendingWidth
 
 -- the length of an image, and the room that a buffer for one has at least
 abbrev pub imageSize : ℕ

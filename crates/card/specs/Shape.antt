@@ -9,7 +9,7 @@ use Rattle.card.specs.declared.Front.{Front}
 use Rattle.card.specs.declared.Held.{Held}
 use Rattle.card.specs.declared.Face.{Face}
 use Rattle.card.specs.declared.Card.{Card}
-use Rattle.card.specs.Layout.{pinSize, cidSize, cvcSize, seedSize, keyRoom, dataRoom, signatureSize, lastRoom}
+use Rattle.card.specs.Layout.{pinSize, cidSize, cvcSize, seedSize, keyRoom, dataRoom, signatureSize, heldRoom, lastRoom}
 
 pub record ShapeCodes (x : Codes) : Type 0 where
   pub pin1 : length (x .pin1) ≡ pinSize
@@ -36,6 +36,7 @@ pub record ShapeHeld (x : Held) : Type 0 where
 pub record ShapeFace (x : Face) : Type 0 where
   pub front : ShapeFront (x .front)
   pub held : ShapeHeld (x .held)
+  pub pending : length (x .pending .request) ≡ heldRoom
   pub last : length (x .last .signatures) ≡ lastRoom
 
 pub record Shape (c : Card) : Type 0 where

@@ -1,4 +1,5 @@
--- When an image is a card, 01 "What the card is made of": one list of tests, each a clause of that sentence, and one of 02 Ask 2. Assumes nothing.
+-- When an image is a card, 01 "What the card is made of": one list of tests, each a clause of that sentence, one of 02 Ask 2, and those of
+-- 02 Ask 7. Assumes nothing.
 use Prim.Native.Nat.{ℕ, _*_}
 use mathlib.Core.Bool.{Bool, true, cond, not, _&&_, _||_}
 use mathlib.Core.List.{List, [], _∷_}
@@ -11,11 +12,13 @@ use Rattle.card.specs.declared.Wallet.{Wallet}
 use Rattle.card.specs.declared.Key.{Key}
 use Rattle.card.specs.declared.Block.{Block}
 use Rattle.card.specs.declared.Issuer.{Issuer}
+use Rattle.card.specs.declared.Wait.{Wait}
+use Rattle.card.specs.declared.Pending.{Pending}
 use Rattle.card.specs.declared.Last.{Last}
 use Rattle.card.specs.declared.Front.{Front}
 use Rattle.card.specs.declared.Held.{Held}
 use Rattle.card.specs.declared.Face.{Face}
-use Rattle.card.specs.Layout.{keyRoom, keyShort, dataRoom, signatureSize, mostHashes, imageSize}
+use Rattle.card.specs.Layout.{keyRoom, keyShort, dataRoom, signatureSize, mostHashes, leastHeld, heldRoom, mostPause, mostWrong, mostLeft, imageSize}
 use Rattle.card.specs.Image.{decode}
 
 abbrev pub every : List Bool → Bool
@@ -85,6 +88,20 @@ okBlock b = every (blockTests b)
 abbrev pub issuerTests : Issuer → List Bool
 issuerTests x = okBlock (x .block) ∷ (leb 1 (x .block .size) || allZero (drop 0 (x .signature))) ∷ []
 
+-- 02 Ask 7: "0 to 60" wrong codes; "the seconds left (1 to 120 if held, else 0)" of a request of 6 to 1,024 bytes; unused room is zero
+abbrev pub isHolding : Wait → Bool
+isHolding w = leb 1 (w .left) && (leb (w .left) mostLeft && (leb leastHeld (w .size) && leb (w .size) heldRoom))
+
+abbrev pub isIdle : Wait → Bool
+isIdle w = eqb (w .left) 0 && eqb (w .size) 0
+
+abbrev pub pendingTests : Pending → List Bool
+pendingTests p = leb (p .wait .wrong) mostWrong ∷ (isIdle (p .wait) || isHolding (p .wait)) ∷ allZero (drop (p .wait .size) (p .request)) ∷ []
+
+-- 02 Ask 7: a pause of "0 to 60 seconds"
+abbrev pub pauseKnown : Fixed → Bool
+pauseKnown x = leb (x .pause) mostPause
+
 -- 0 to 10 last signatures; unused room is zero
 abbrev pub lastTests : Last → List Bool
 lastTests l = leb (l .count) mostHashes ∷ allZero (drop (l .count * signatureSize) (l .signatures)) ∷ []
@@ -108,6 +125,9 @@ okKey curve status k = every (keyTests curve status k)
 unfoldable pub okIssuer : Issuer → Bool
 okIssuer x = every (issuerTests x)
 
+unfoldable pub okPending : Pending → Bool
+okPending p = every (pendingTests p)
+
 unfoldable pub okLast : Last → Bool
 okLast l = every (lastTests l)
 
@@ -118,6 +138,7 @@ frontTests x =
     ∷ okRanges (x .fixed) (x .wallet)
     ∷ okState (x .flags) (x .wallet)
     ∷ okKey (x .fixed .curve) (x .wallet .status) (x .key)
+    ∷ pauseKnown (x .fixed)
     ∷ []
 
 abbrev pub heldTests : Held → List Bool
@@ -130,7 +151,8 @@ unfoldable pub okHeld : Held → Bool
 okHeld x = every (heldTests x)
 
 abbrev pub faceTests : Face → List Bool
-faceTests f = okFront (f .front) ∷ okHeld (f .held) ∷ okLast (f .last) ∷ lastOwned (f .front .wallet) (f .last) ∷ []
+faceTests f =
+    okFront (f .front) ∷ okHeld (f .held) ∷ okPending (f .pending) ∷ okLast (f .last) ∷ lastOwned (f .front .wallet) (f .last) ∷ []
 
 unfoldable pub okFace : Face → Bool
 okFace f = every (faceTests f)

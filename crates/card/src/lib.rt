@@ -1,6 +1,8 @@
 // What the card is made of, 01: its values in small groups, all but the codes as its face; the fresh card; and the wallet's
 // counters and status as one small value, which create, sign and purge take and hand back.
+mod defaults;
 pub mod layout;
+mod waiting;
 
 ghost use mathlib.Core.Path.{_≡_};
 ghost use mathlib.Core.Bool.{cond};
@@ -8,6 +10,7 @@ ghost use lib.Dec.{ltb};
 ghost use Prim.Native.Nat.{_+_, _-_};
 ghost use Rattle.card.specs.Layout.{top32};
 ghost use Rattle.card.specs.Values.{u32, activated, created, spent, purged, afterPurge, risen, checkedOnce, validatedOnce, fresh};
+ghost use Rattle.card.specs.Values.{noBlock, noIssuer};
 
 // The codes: what no answer may tell.
 pub struct Codes {
@@ -21,6 +24,7 @@ pub struct Fixed {
     pub curve: u8,
     pub max: u32,
     pub seed: [u8; Fixed::SEED_SIZE],
+    pub pause: u8,
 }
 
 pub struct Flags {
@@ -65,6 +69,19 @@ pub struct Issuer {
     pub counter: u32,
 }
 
+// The wrong codes counted; of the request that is held, the seconds left and the size, both 0 where none is.
+pub struct Wait {
+    pub wrong: u8,
+    pub left: u8,
+    pub size: u16,
+}
+
+// The wait, and the request that is held: the first `size` bytes.
+pub struct Pending {
+    pub wait: Wait,
+    pub request: [u8; Pending::ROOM],
+}
+
 // The last signatures: the first `count`, of 64 bytes each.
 pub struct Last {
     pub count: u8,
@@ -91,52 +108,13 @@ pub struct Held {
 pub struct Face {
     pub front: Front,
     pub held: Held,
+    pub pending: Pending,
     pub last: Last,
 }
 
 pub struct Card {
     pub face: Face,
     pub codes: Codes,
-}
-
-impl Codes {
-    pub const PIN_SIZE: usize = 32;
-
-    // SHA-256 of 000000.
-    pub const DEFAULT_PIN1: [u8; Codes::PIN_SIZE] = [
-        0x91,
-        0xB4,
-        0xD1,
-        0x42,
-        0x82,
-        0x3F,
-        0x7D,
-        0x20,
-        0xC5,
-        0xF0,
-        0x8D,
-        0xF6,
-        0x91,
-        0x22,
-        0xDE,
-        0x43,
-        0xF3,
-        0x5F,
-        0x05,
-        0x7A,
-        0x98,
-        0x8D,
-        0x96,
-        0x19,
-        0xF6,
-        0xD3,
-        0x13,
-        0x84,
-        0x85,
-        0xC9,
-        0xA2,
-        0x03,
-    ];
 }
 
 impl Fixed {
@@ -146,6 +124,9 @@ impl Fixed {
 
     // The activation seed.
     pub const SEED_SIZE: usize = 16;
+
+    // Of the pause before a command that needs PIN2, in seconds.
+    pub const MOST_PAUSE: u8 = 60;
 
     // The curves.
     pub const SECP256K1: u8 = 1;
@@ -179,6 +160,13 @@ impl Key {
 
 impl Block {
     pub const ROOM: usize = 512;
+}
+
+impl Pending {
+    // Of the longest request, and of the shortest that is held.
+    pub const ROOM: usize = 1024;
+
+    pub const LEAST: usize = 6;
 }
 
 impl Last {
@@ -311,15 +299,31 @@ impl Counters {
     }
 }
 
+// All data empty.
+fn no_data() -> Held
+    ensures { λ r. ⌜ r ≡ record { user = noBlock; protected = noBlock; issuer = noIssuer } ⌝ }
+{
+    let none = Block {
+        size: 0,
+        bytes: [0u8; Block::ROOM],
+    };
+    Held {
+        user: none,
+        protected: none,
+        issuer: Issuer {
+            block: none,
+            signature: [0u8; Last::SIGNATURE_SIZE],
+            counter: 0,
+        },
+    }
+}
+
 impl Card {
-    // A fresh card: Empty, with Signed_Hashes, the wallet number and every counter 0, no last signatures and all data empty.
+    // A fresh card: Empty, with Signed_Hashes, the wallet number and every counter 0, no last signatures and all data empty;
+    // nothing is held or counted.
     pub fn fresh(fixed: Fixed, flags: Flags, codes: Codes) -> Card
         ensures { λ r. ⌜ r ≡ fresh fixed flags codes ⌝ }
     {
-        let none = Block {
-            size: 0,
-            bytes: [0u8; Block::ROOM],
-        };
         let front = Front {
             fixed,
             flags,
@@ -340,20 +344,21 @@ impl Card {
                 protected: 0,
             },
         };
-        let held = Held {
-            user: none,
-            protected: none,
-            issuer: Issuer {
-                block: none,
-                signature: [0u8; Last::SIGNATURE_SIZE],
-                counter: 0,
-            },
+        let held = no_data();
+        let pending = Pending {
+            wait: Wait::none(),
+            request: [0u8; Pending::ROOM],
         };
         let last = Last {
             count: 0,
             signatures: [0u8; Last::ROOM],
         };
-        let face = Face { front, held, last };
+        let face = Face {
+            front,
+            held,
+            pending,
+            last,
+        };
         Card { face, codes }
     }
 }

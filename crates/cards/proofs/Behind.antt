@@ -10,8 +10,8 @@ use lib.Dec.{leb, eqb, lit≤, lit<}
 use borrow.Author.Tests.{leb-true, leb-false}
 use Rattle.wire.specs.Wire.{part, num16, num32}
 use Rattle.wire.proofs.Laws.{by-cases, part-plain}
-use Rattle.card.specs.Layout.{cidSize, cvcSize, seedSize, keyRoom, dataRoom, signatureSize, lastRoom, blockWidth, codesWidth, imageSize}
-use Rattle.card.specs.Layout.{fixedAt, flagsAt, walletAt, keyAt, countersAt, userAt, protectedAt, issuerAt, lastAt}
+use Rattle.card.specs.Layout.{cidSize, cvcSize, seedSize, keyRoom, dataRoom, signatureSize, heldRoom, lastRoom, blockWidth, codesWidth, imageSize}
+use Rattle.card.specs.Layout.{fixedAt, pauseAt, flagsAt, walletAt, keyAt, countersAt, userAt, protectedAt, issuerAt, pendingAt, lastAt}
 use Rattle.card.specs.Image.{decBlock, decode}
 use Rattle.card.specs.Valid.{okFace, isCard}
 
@@ -78,6 +78,7 @@ module _ (l m : List ℕ) (same : drop codesWidth l ≡ drop codesWidth m) where
             curve = byte (fixedAt + 11) (lit≤ tt) i;
             max = four (fixedAt + 12) (lit≤ tt) i;
             seed = array (fixedAt + 16) seedSize (lit≤ tt) (lit< tt) i;
+            pause = byte pauseAt (lit≤ tt) i;
           };
           flags = record {
             reusable = byte flagsAt (lit≤ tt) i;
@@ -110,6 +111,10 @@ module _ (l m : List ℕ) (same : drop codesWidth l ≡ drop codesWidth m) where
             signature = array (issuerAt + blockWidth) signatureSize (lit≤ tt) (lit< tt) i;
             counter = four (issuerAt + blockWidth + signatureSize) (lit≤ tt) i;
           };
+        };
+        pending = record {
+          wait = record { wrong = byte pendingAt (lit≤ tt) i; left = byte (pendingAt + 1) (lit≤ tt) i; size = pair (pendingAt + 2) (lit≤ tt) i };
+          request = array (pendingAt + 4) heldRoom (lit≤ tt) (lit< tt) i;
         };
         last = record { count = byte lastAt (lit≤ tt) i; signatures = array (lastAt + 1) lastRoom (lit≤ tt) (lit< tt) i };
       }

@@ -18,16 +18,20 @@ use Rattle.card.specs.declared.Key.{Key}
 use Rattle.card.specs.declared.Counters.{Counters}
 use Rattle.card.specs.declared.Block.{Block}
 use Rattle.card.specs.declared.Issuer.{Issuer}
+use Rattle.card.specs.declared.Wait.{Wait}
+use Rattle.card.specs.declared.Pending.{Pending}
 use Rattle.card.specs.declared.Last.{Last}
 use Rattle.card.specs.declared.Front.{Front}
 use Rattle.card.specs.declared.Held.{Held}
 use Rattle.card.specs.declared.Face.{Face}
 use Rattle.card.specs.declared.Card.{Card}
-use Rattle.card.specs.Layout.{pinSize, cidSize, cvcSize, seedSize, keyRoom, dataRoom, signatureSize, lastRoom}
-use Rattle.card.specs.Layout.{codesWidth, fixedWidth, flagsWidth, walletWidth, keyWidth, countersWidth, blockWidth, issuerWidth, lastWidth}
-use Rattle.card.specs.Layout.{codesAt, fixedAt, flagsAt, walletAt, keyAt, countersAt, userAt, protectedAt, issuerAt, lastAt, imageSize}
-use Rattle.card.specs.Image.{encCodes, encFixed, encFlags, encWallet, encKey, encCounters, encBlock, encIssuer, encLast, encFront, encHeld, encFace, encode}
-use Rattle.card.specs.Image.{decCodes, decFixed, decFlags, decWallet, decKey, decCounters, decBlock, decIssuer, decLast, decFront, decHeld, decFace, decode}
+use Rattle.card.specs.Layout.{pinSize, cidSize, cvcSize, seedSize, keyRoom, dataRoom, signatureSize, heldRoom, lastRoom}
+use Rattle.card.specs.Layout.{codesWidth, fixedWidth, flagsWidth, walletWidth, keyWidth, countersWidth, blockWidth, issuerWidth, pendingWidth, lastWidth}
+use Rattle.card.specs.Layout.{codesAt, fixedAt, pauseAt, flagsAt, walletAt, keyAt, countersAt, userAt, protectedAt, issuerAt, pendingAt, lastAt, imageSize}
+use Rattle.card.specs.Image.{encCodes, encFixed, encFlags, encWallet, encKey, encCounters, encBlock, encIssuer, encWait, encPending, encLast}
+use Rattle.card.specs.Image.{encFront, encHeld, encFace, encode}
+use Rattle.card.specs.Image.{decCodes, decFixed, decFlags, decWallet, decKey, decCounters, decBlock, decIssuer, decWait, decPending, decLast}
+use Rattle.card.specs.Image.{decFront, decHeld, decFace, decode}
 use Rattle.card.specs.Valid.{okFace, isCard}
 use Rattle.card.specs.Shape.{ShapeCodes, ShapeFixed, ShapeIssuer, ShapeFront, ShapeHeld, ShapeFace, Shape}
 use Rattle.cards.proofs.Shape.{length-encode}
@@ -49,7 +53,8 @@ module _ (l : List ℕ) where
       let p3 = peel8 l (fixedAt + 11) (x .curve) _ (p2 .1) in
       let p4 = peel32 l (fixedAt + 12) (x .max) _ (p3 .1) in
       let p5 = peel l (fixedAt + 16) seedSize (x .seed) _ (p4 .1) (s .seed) (lit< tt) in
-      (λ i. record { cid = p1 .0 i; cvc = p2 .0 i; curve = p3 .0 i; max = p4 .0 i; seed = p5 .0 i }, p5 .1)
+      let p6 = peel8 l pauseAt (x .pause) _ (p5 .1) in
+      (λ i. record { cid = p1 .0 i; cvc = p2 .0 i; curve = p3 .0 i; max = p4 .0 i; seed = p5 .0 i; pause = p6 .0 i }, p6 .1)
 
   flags : (x : Flags) (rest : List ℕ) → drop flagsAt l ≡ encFlags x ++ rest → (decFlags l ≡ x) × (drop walletAt l ≡ rest)
   unfolding encFlags
@@ -109,13 +114,30 @@ module _ (l : List ℕ) where
       let z : at + blockWidth ≡ at + 2 + dataRoom = omega arith in
       (λ i. record { size = p1 .0 i; bytes = p2 .0 i }, ap (λ n. drop n l) z ∙ p2 .1)
 
-  issuer : (x : Issuer) → ShapeIssuer x → (rest : List ℕ) → drop issuerAt l ≡ encIssuer x ++ rest → (decIssuer l ≡ x) × (drop lastAt l ≡ rest)
+  issuer : (x : Issuer) → ShapeIssuer x → (rest : List ℕ) → drop issuerAt l ≡ encIssuer x ++ rest → (decIssuer l ≡ x) × (drop pendingAt l ≡ rest)
   unfolding encIssuer
   issuer x s rest e =
       let p1 = block issuerAt (x .block) (s .block) _ (simp append-assoc at e) in
       let p2 = peel l (issuerAt + blockWidth) signatureSize (x .signature) _ (p1 .1) (s .signature) (lit< tt) in
       let p3 = peel32 l (issuerAt + blockWidth + signatureSize) (x .counter) _ (p2 .1) in
       (λ i. record { block = p1 .0 i; signature = p2 .0 i; counter = p3 .0 i }, p3 .1)
+
+  wait : (x : Wait) (rest : List ℕ) → drop pendingAt l ≡ encWait x ++ rest → (decWait l ≡ x) × (drop (pendingAt + 4) l ≡ rest)
+  unfolding encWait
+  wait x rest e =
+      let p1 = peel8 l pendingAt (x .wrong) _ e in
+      let p2 = peel8 l (pendingAt + 1) (x .left) _ (p1 .1) in
+      let p3 = peel16 l (pendingAt + 2) (x .size) _ (p2 .1) in
+      (λ i. record { wrong = p1 .0 i; left = p2 .0 i; size = p3 .0 i }, p3 .1)
+
+  pending :
+      (x : Pending) → length (x .request) ≡ heldRoom → (rest : List ℕ) → drop pendingAt l ≡ encPending x ++ rest
+      → (decPending l ≡ x) × (drop lastAt l ≡ rest)
+  unfolding encPending
+  pending x s rest e =
+      let p1 = wait (x .wait) _ (simp append-assoc at e) in
+      let p2 = peel l (pendingAt + 4) heldRoom (x .request) _ (p1 .1) s (lit< tt) in
+      (λ i. record { wait = p1 .0 i; request = p2 .0 i }, p2 .1)
 
   last : (x : Last) → length (x .signatures) ≡ lastRoom → (rest : List ℕ) → drop lastAt l ≡ encLast x ++ rest → decLast l ≡ x
   unfolding encLast
@@ -134,7 +156,7 @@ module _ (l : List ℕ) where
       let p5 = counters (x .counters) _ (p4 .1) in
       (λ i. record { fixed = p1 .0 i; flags = p2 .0 i; wallet = p3 .0 i; key = p4 .0 i; counters = p5 .0 i }, p5 .1)
 
-  held : (x : Held) → ShapeHeld x → (rest : List ℕ) → drop userAt l ≡ encHeld x ++ rest → (decHeld l ≡ x) × (drop lastAt l ≡ rest)
+  held : (x : Held) → ShapeHeld x → (rest : List ℕ) → drop userAt l ≡ encHeld x ++ rest → (decHeld l ≡ x) × (drop pendingAt l ≡ rest)
   unfolding encHeld
   held x s rest e =
       let p1 = block userAt (x .user) (s .user) _ (simp append-assoc at e) in
@@ -147,7 +169,8 @@ module _ (l : List ℕ) where
   face x s rest e =
       let p1 = front (x .front) (s .front) _ (simp append-assoc at e) in
       let p2 = held (x .held) (s .held) _ (p1 .1) in
-      λ i. record { front = p1 .0 i; held = p2 .0 i; last = last (x .last) (s .last) _ (p2 .1) i }
+      let p3 = pending (x .pending) (s .pending) _ (p2 .1) in
+      λ i. record { front = p1 .0 i; held = p2 .0 i; pending = p3 .0 i; last = last (x .last) (s .last) _ (p3 .1) i }
 
 -- the image of a card spells that card
 pub decode-encode : (c : Card) → Shape c → decode (encode c) ≡ c
@@ -182,7 +205,8 @@ module _ (l : List ℕ) (long : length l ≡ imageSize) (b : Bytes l) where
       let p1 = beside l fixedAt cidSize cvcSize (array fixedAt cidSize (lit≤ tt)) (array (fixedAt + 8) cvcSize (lit≤ tt)) in
       let p2 = beside l fixedAt 11 1 p1 (byte (fixedAt + 11) (lit≤ tt)) in
       let p3 = beside l fixedAt 12 4 p2 (four (fixedAt + 12) (lit≤ tt)) in
-      beside l fixedAt 16 seedSize p3 (array (fixedAt + 16) seedSize (lit≤ tt))
+      let p4 = beside l fixedAt 16 seedSize p3 (array (fixedAt + 16) seedSize (lit≤ tt)) in
+      beside l fixedAt (pauseAt - fixedAt) 1 p4 (byte pauseAt (lit≤ tt))
 
   of-flags : encFlags (decFlags l) ≡ take flagsWidth (drop flagsAt l)
   unfolding encFlags
@@ -222,6 +246,16 @@ module _ (l : List ℕ) (long : length l ≡ imageSize) (b : Bytes l) where
       let p1 = beside l issuerAt blockWidth signatureSize (of-block issuerAt (lit≤ tt)) (array (issuerAt + blockWidth) signatureSize (lit≤ tt)) in
       beside l issuerAt (blockWidth + signatureSize) 4 p1 (four (issuerAt + blockWidth + signatureSize) (lit≤ tt))
 
+  of-wait : encWait (decWait l) ≡ take 4 (drop pendingAt l)
+  unfolding encWait
+  of-wait =
+      let p1 = beside l pendingAt 1 1 (byte pendingAt (lit≤ tt)) (byte (pendingAt + 1) (lit≤ tt)) in
+      beside l pendingAt 2 2 p1 (pair (pendingAt + 2) (lit≤ tt))
+
+  of-pending : encPending (decPending l) ≡ take pendingWidth (drop pendingAt l)
+  unfolding encPending
+  of-pending = beside l pendingAt 4 heldRoom of-wait (array (pendingAt + 4) heldRoom (lit≤ tt))
+
   of-last : encLast (decLast l) ≡ take lastWidth (drop lastAt l)
   unfolding encLast
   of-last = beside l lastAt 1 lastRoom (byte lastAt (lit≤ tt)) (array (lastAt + 1) lastRoom (lit≤ tt))
@@ -234,7 +268,7 @@ module _ (l : List ℕ) (long : length l ≡ imageSize) (b : Bytes l) where
       let p3 = beside l fixedAt (keyAt - fixedAt) keyWidth p2 of-key in
       beside l fixedAt (countersAt - fixedAt) countersWidth p3 of-counters
 
-  of-held : encHeld (decHeld l) ≡ take (lastAt - userAt) (drop userAt l)
+  of-held : encHeld (decHeld l) ≡ take (pendingAt - userAt) (drop userAt l)
   unfolding encHeld
   of-held =
       let p1 = beside l userAt blockWidth blockWidth (of-block userAt (lit≤ tt)) (of-block protectedAt (lit≤ tt)) in
@@ -243,8 +277,9 @@ module _ (l : List ℕ) (long : length l ≡ imageSize) (b : Bytes l) where
   of-face : encFace (decFace l) ≡ take (imageSize - fixedAt) (drop fixedAt l)
   unfolding encFace
   of-face =
-      let p1 = beside l fixedAt (userAt - fixedAt) (lastAt - userAt) of-front of-held in
-      beside l fixedAt (lastAt - fixedAt) lastWidth p1 of-last
+      let p1 = beside l fixedAt (userAt - fixedAt) (pendingAt - userAt) of-front of-held in
+      let p2 = beside l fixedAt (pendingAt - fixedAt) pendingWidth p1 of-pending in
+      beside l fixedAt (lastAt - fixedAt) lastWidth p2 of-last
 
 -- bytes as many as an image has are the image of the card that they spell
 pub encode-decode : (l : List ℕ) → length l ≡ imageSize → Bytes l → encode (decode l) ≡ l
@@ -267,6 +302,7 @@ shape-decode l long =
           protected = of (protectedAt + 2) dataRoom (lit≤ tt);
           issuer = record { block = of (issuerAt + 2) dataRoom (lit≤ tt); signature = of (issuerAt + blockWidth) signatureSize (lit≤ tt) };
         };
+        pending = of (pendingAt + 4) heldRoom (lit≤ tt);
         last = of (lastAt + 1) lastRoom (lit≤ tt);
       };
     }

@@ -17,10 +17,10 @@ use contract.BorrowModel.{ghost₀}
 use denote.Signature.{typeAt}
 use denote.Laws.{Is, Fixes}
 use Rattle.manual.specs.declared.Outcome.{Outcome}
-use Rattle.manual.specs.Settle.{holding, askCall, settleCall, Posed, posedBy, Settled, settledBy}
+use Rattle.manual.specs.Settle.{holding, askCall, settleCall, Posed, posedBy, Settled, settledBy, Off, offOf}
 use Rattle.history.specs.Demands.{AnyCard}
 use Rattle.history.proofs.Images.{model}
-use Rattle.computed.specs.Computes.{Computes, asked, settled, Sliceable}
+use Rattle.computed.specs.Computes.{Computes, asked, settled, turnedOff, Sliceable}
 use Rattle.computed.proofs.Meets.{computes-model}
 use Rattle.computed.proofs.Lent.{Passed, shared, lent, lftsOf, wholes, argsOf, valsOf}
 use Rattle.computed.proofs.Start.{AllSliceable, laid, agree}
@@ -28,6 +28,8 @@ use Rattle.practice.proofs.practice_ask as ask
 use Rattle.practice.proofs.practice_ask.Symbol as ask-code
 use Rattle.practice.proofs.practice_settle as settle
 use Rattle.practice.proofs.practice_settle.Symbol as settle-code
+use Rattle.practice.proofs.practice_power_off as off
+use Rattle.practice.proofs.practice_power_off.Symbol as off-code
 
 -- a result as the machine has it, and what is read out of that
 abbrev spelt : Outcome → List Val
@@ -74,6 +76,9 @@ askSlices img q d page = shared img 0 0 ∷ shared q 0 0 ∷ shared d 0 0 ∷ le
 abbrev settleSlices : List ℕ → List ℕ → List ℕ → List ℕ → List ℕ → List ℕ → List Passed
 settleSlices img q d a out nxt = shared img 0 0 ∷ shared q 0 0 ∷ shared d 0 0 ∷ shared a 0 0 ∷ lent out 0 0 ∷ lent nxt 0 0 ∷ []
 
+abbrev offSlices : List ℕ → List ℕ → List Passed
+offSlices img nxt = shared img 0 0 ∷ lent nxt 0 0 ∷ []
+
 -- an equation of outcomes or of bytes is a proposition, so the truncation of a run's existence can be left
 outcome-set : IsSet Outcome
 outcome-set x y p q =
@@ -99,6 +104,13 @@ settled-set x y p q =
     λ i j. record {
       result = outcome-set (x .result) (y .result) (ap (λ z. z .result) p) (ap (λ z. z .result) q) i j;
       response = bytes-set (x .response) (y .response) (ap (λ z. z .response) p) (ap (λ z. z .response) q) i j;
+      next = bytes-set (x .next) (y .next) (ap (λ z. z .next) p) (ap (λ z. z .next) q) i j;
+    }
+
+off-set : IsSet Off
+off-set x y p q =
+    λ i j. record {
+      result = outcome-set (x .result) (y .result) (ap (λ z. z .result) p) (ap (λ z. z .result) q) i j;
       next = bytes-set (x .next) (y .next) (ap (λ z. z .next) p) (ap (λ z. z .next) q) i j;
     }
 
@@ -131,6 +143,19 @@ module _ {M : Type 1} (𝓤 : URA M) (H : Heap 𝓤) (𝓜 : Model 𝓤 H) (𝓖
       (settled f) (settled model) (h .settles) (computes-model .settles) (λ _. outcome-fixes ([], ([], ([], ([], tt))))) g) (settled-set _ _)
       (λ r. sym (r .5) ∙ ap (λ ws. settledBy (r .1) (ws .1 .1 .1 .1 .0) (ws .1 .1 .1 .1 .1 .0)) (r .4) ∙ r .6)
 
+  off-agrees : (img nxt : List ℕ) → AllSliceable (offSlices img nxt) → f .powerOff (holding img) nxt ≡ model .powerOff (holding img) nxt
+  off-agrees img nxt g =
+      let ps : List Passed = laid 0 (offSlices img nxt) in
+      ∥∥₁-elim (agree 𝓤 H 𝓜 𝓖 𝓡 off.ended off-code.routine (offSlices img nxt)
+      (record {
+        bound = λ ξ. (lftsOf ps ξ, wholes ps, tt, argsOf 0 ps ξ, valsOf 0 ps ξ);
+        ends-at = λ ξ ws. ws;
+        enters = λ ξ. id⊢ 𝓤 _;
+        leaves = λ ξ ws. id⊢ 𝓤 _;
+      })
+      (turnedOff f) (turnedOff model) (h .turnsOff) (computes-model .turnsOff) (λ _. outcome-fixes ([], ([], ([], ([], tt))))) g) (off-set _ _)
+      (λ r. sym (r .5) ∙ ap (λ ws. offOf (r .1) (ws .1 .0)) (r .4) ∙ r .6)
+
 -- at the closed model, from a memory made of the bytes, so that nothing of the logic is left in the statement
 module _ (f : AnyCard) (h : Computes f) where
   pub ask-is : (img q d page : List ℕ) → Sliceable img → Sliceable q → Sliceable d → Sliceable page
@@ -142,3 +167,6 @@ module _ (f : AnyCard) (h : Computes f) where
       → f .taps .settle (holding img) (settleCall q d a out nxt) ≡ model .taps .settle (holding img) (settleCall q d a out nxt)
   settle-is img q d a out nxt gi gq gd ga go gn =
       settle-agrees Closed.𝓤 Closed.H Closed.model ghost₀ (real Closed.𝓤 Closed.H Closed.model) f h img q d a out nxt (gi, (gq, (gd, (ga, (go, (gn, tt))))))
+
+  pub off-is : (img nxt : List ℕ) → Sliceable img → Sliceable nxt → f .powerOff (holding img) nxt ≡ model .powerOff (holding img) nxt
+  off-is img nxt gi gn = off-agrees Closed.𝓤 Closed.H Closed.model ghost₀ (real Closed.𝓤 Closed.H Closed.model) f h img nxt (gi, (gn, tt))

@@ -16,12 +16,14 @@ use denote.Triple.Entry.{Args, Res}
 use denote.Triple.Spec.{Meets}
 use denote.Triple.Clauses.{Clauses, Ended, AtExit, closing}
 use Rattle.wire.specs.Wire.{Bytes}
-use Rattle.manual.specs.Settle.{holding, askCall, settleCall, settledBy, posedBy}
+use Rattle.manual.specs.Settle.{holding, askCall, settleCall, settledBy, posedBy, offOf}
 use Rattle.history.specs.Demands.{AnyCard}
 use Rattle.practice.proofs.practice_ask as ask
 use Rattle.practice.proofs.practice_ask.Symbol as ask-code
 use Rattle.practice.proofs.practice_settle as settle
 use Rattle.practice.proofs.practice_settle.Symbol as settle-code
+use Rattle.practice.proofs.practice_power_off as off
+use Rattle.practice.proofs.practice_power_off.Symbol as off-code
 
 -- a promise: of the arguments, the result and the parameters at exit. Nothing is required of the caller
 abbrev pub Promise : Ended → Type 1
@@ -48,9 +50,14 @@ settled f κs a z e =
     ≡ f .taps .settle (holding (now (a .0)))
     (settleCall (now (a .1 .0)) (now (a .1 .1 .0)) (now (a .1 .1 .1 .0)) (now (a .1 .1 .1 .1 .0)) (now (a .1 .1 .1 .1 .1 .0)))
 
+-- image, and the buffer for the next one
+abbrev pub turnedOff : AnyCard → Promise off.ended
+turnedOff f κs a z e = offOf z (now (e .1 .0)) ≡ f .powerOff (holding (now (a .0))) (now (a .1 .0))
+
 pub record Computes (f : AnyCard) : Type 2 where
   pub asks : Keeps ask.ended (asked f) ask-code.routine
   pub settles : Keeps settle.ended (settled f) settle-code.routine
+  pub turnsOff : Keeps off.ended (turnedOff f) off-code.routine
 
 -- what a slice of bytes can be: it has fewer than 2 ^ 63, as isize::MAX allows
 abbrev pub Sliceable : List ℕ → Type 0

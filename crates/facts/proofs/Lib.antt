@@ -5,3 +5,4 @@ pub mod Checking
 pub mod Storage
 pub mod Activation
 pub mod Facts
+pub mod Blind

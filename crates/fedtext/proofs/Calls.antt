@@ -7,13 +7,13 @@ use mathlib.Core.List.{List, [], _∷_, _++_}
 use lib.ListN.{length, drop, length-append, length-drop}
 use lib.Dec.{leb, eqb}
 use borrow.Author.Tests.{leb-true, le-leb, eqb-true, eq-eqb}
-use Rattle.wire.specs.Wire.{put, fit, room}
+use Rattle.wire.specs.Wire.{be1, put, fit, room}
 use Rattle.wire.proofs.Laws.{by-cases, both-true, room-true, length-put}
-use Rattle.card.specs.Layout.{imageSize}
+use Rattle.card.specs.Layout.{pauseAt, imageSize}
 use Rattle.card.specs.Image.{encode}
 use Rattle.card.specs.Valid.{isCard}
 use Rattle.cards.proofs.Round.{is-card-length}
-use Rattle.sheet.specs.Sheet.{firstBad, belongs, lineAfter}
+use Rattle.sheet.specs.Sheet.{pauseOf, valueIn, firstBad, belongs, lineAfter}
 use Rattle.personalise.specs.Personalise.{sheetCard}
 use Rattle.sheets_back.proofs.Good.{sheet-is-card}
 use Rattle.manual.specs.Settle.{holding, over, settled}
@@ -22,7 +22,7 @@ use Rattle.history.proofs.Theorems.{card-stays}
 use Rattle.tapline.specs.Line.{Recorded, recorded}
 use Rattle.recording.specs.declared.Play.{Play}
 use Rattle.recording.specs.Play.{callOf, afterTap, printed}
-use Rattle.recording.specs.Step.{Stepped, played, nothing, stopped, tapped, isNext, started, stepped, lineRoom, roomFor}
+use Rattle.recording.specs.Step.{Stepped, played, nothing, stopped, tapped, isNext, isFirstPause, pausing, started, stepped, lineRoom, roomFor}
 use Rattle.player.specs.declared.Player.{Player}
 use Rattle.player.specs.Feed.{atFirst, playedHeld, textRoom, isWhole, Left, roomy, fed}
 use Rattle.fedtext.specs.Whole.{more, count, turn, fedText, callsText, printedBy}
@@ -39,12 +39,18 @@ tap-keeps y m t h = go (isCard m) refl
 
 step-keeps : (y : Play) (m l : List ℕ) → length m ≡ imageSize → length (stepped y m l .image) ≡ imageSize
 unfolding stepped
-step-keeps y m l h = go (y .ended) (isNext (y .taps) l)
+step-keeps y m l h = go (y .ended) (isFirstPause y l) (isNext (y .taps) l)
   where
-    go : (a b : Bool) → length (cond a (nothing y m) (cond b (tapped (played y m) (recorded l)) (stopped y m (lineAfter (y .taps)))) .image) ≡ imageSize
-    go true b = h
-    go false true = tap-keeps y m (recorded l) h
-    go false false = h
+    go :
+        (a b c : Bool)
+        → length
+        (cond a (nothing y m)
+        (cond b (pausing y m l) (cond c (tapped (y .paused) (played y m) (recorded l)) (stopped y m (lineAfter (y .paused) (y .taps))))) .image)
+        ≡ imageSize
+    go true b c = h
+    go false true c = length-put m pauseAt (be1 (pauseOf (valueIn l))) (omega (arith, h)) ∙ h
+    go false false true = tap-keeps y m (recorded l) h
+    go false false false = h
 
 start-keeps : (v m : List ℕ) → length m ≡ imageSize → length (started v m .image) ≡ imageSize
 unfolding started

@@ -1,5 +1,5 @@
--- THE SHEET FIRST: bytes that come one by one up to its last line feed are the sheet, and those that are cut before it hold its first bad line.
--- Assumes nothing.
+-- THE SHEET FIRST: bytes that come one by one up to the last line feed of the lines that must be there are they, and those that are cut before it hold
+-- its first bad line. Assumes nothing.
 use Prim.Native.Nat.{ℕ, suc}
 use native.Mathlib.Omega.{arith}
 use mathlib.Core.Path.{_≡_, refl, sym, ap, ap₂, _∙_}
@@ -10,12 +10,11 @@ use lib.Dec.{leb, eqb}
 use borrow.Author.Tests.{leb-true, ne-eqb, eqb-true, not-true, not-false}
 use Rattle.wire.proofs.Laws.{both-true, or-true}
 use Rattle.text.specs.Lines.{linesOf}
-use Rattle.sheet.specs.Sheet.{sheetLines, firstBad, belongs, sheetIn, afterSheet}
+use Rattle.sheet.specs.Sheet.{sheetLines, firstBad, belongs, requiredIn, afterRequired}
 use Rattle.sheets_back.specs.Feeds.{feeds, snoc}
 use Rattle.sheets_back.proofs.Early.{bad-unended, bad-early}
-use Rattle.sheets_back.proofs.Parted.{snoc-feeds, sheet-is, lines-after, sheet-begins, sheet-all}
+use Rattle.sheets_back.proofs.Parted.{snoc-feeds, required-is, lines-after, required-begins, required-all}
 use Rattle.printing.specs.Printing.{badText}
-use Rattle.recording.specs.Recording.{tapsIn}
 use Rattle.recording.specs.Step.{Stepped, stopped, start, started, runText, stepsText}
 use Rattle.recorded.proofs.Steps.{ended-is-silent}
 use Rattle.player.specs.Feed.{playedHeld, linesWith, textRoom, isWhole, isCut}
@@ -50,12 +49,12 @@ started-bad : (v m : List ℕ) → (firstBad v ≡ 0 → ⊥) → started v m �
 unfolding started
 started-bad v m f = rw (ne-eqb _ _ f)
 
-steps-bad : (m t : List ℕ) → (firstBad (sheetIn t) ≡ 0 → ⊥) → stepsText m t ≡ badText (firstBad (sheetIn t))
+steps-bad : (m t : List ℕ) → (firstBad (requiredIn t) ≡ 0 → ⊥) → stepsText m t ≡ badText (firstBad (requiredIn t))
 unfolding stepsText
 steps-bad m t f =
-    ap (λ z. z .text ++ runText (z .play) (z .image) (tapsIn t)) (started-bad (sheetIn t) m f)
-    ∙ ap (λ (l : List ℕ). badText (firstBad (sheetIn t)) ++ l) (ended-is-silent start m (tapsIn t))
-    ∙ append-nil (badText (firstBad (sheetIn t)))
+    ap (λ z. z .text ++ runText (z .play) (z .image) (afterRequired t)) (started-bad (requiredIn t) m f)
+    ∙ ap (λ (l : List ℕ). badText (firstBad (requiredIn t)) ++ l) (ended-is-silent start m (afterRequired t))
+    ∙ append-nil (badText (firstBad (requiredIn t)))
 
 -- what is held is played as the sheet
 as-sheet : (n : ℕ) (w m : List ℕ) → belongs n ≡ true → playedHeld start n w m ≡ started w m
@@ -70,9 +69,9 @@ sheet-end n w m h = rw h
 cut-end : (v m : List ℕ) → belongs (feeds v) ≡ true → heldText start (feeds v) v m [] ≡ stepsText m v
 unfolding heldText
 cut-end v m h =
-    let e = sheet-all v h in
+    let e = required-all v h in
     let f = bad-unended v h in
-    let g : firstBad (sheetIn v) ≡ 0 → ⊥ = λ z. f (ap firstBad (sym e) ∙ z) in
+    let g : firstBad (requiredIn v) ≡ 0 → ⊥ = λ z. f (ap firstBad (sym e) ∙ z) in
     ap (λ z. z .text) (sheet-end (feeds v) v m h ∙ started-bad v m f) ∙ ap (λ (l : List ℕ). badText (firstBad l)) (sym e) ∙ sym (steps-bad m v g)
 
 -- ONE MORE BYTE of the sheet
@@ -99,8 +98,8 @@ module _ (v m : List ℕ) (b : ℕ) (s : List ℕ) (h : belongs (feeds v) ≡ tr
       let n : linesWith b (feeds v) ≡ suc (feeds v) = counted v b h ∙ snoc-feeds v b ∙ ap (λ (d : Bool). cond d (suc (feeds v)) (feeds v)) (f .0) in
       let k : belongs (suc (feeds v)) ≡ false = ap belongs (sym n) ∙ not-true (belongs (linesWith b (feeds v))) (f .1) in
       let z : Stepped = started w m in
-      let x : sheetIn (v ++ (b ∷ s)) ≡ w = rw c (sheet-is v s h k) in
-      let y : afterSheet (v ++ (b ∷ s)) ≡ linesOf s = rw c (lines-after v s h k) in
+      let x : requiredIn (v ++ (b ∷ s)) ≡ w = rw c (required-is v s h k) in
+      let y : afterRequired (v ++ (b ∷ s)) ≡ linesOf s = rw c (lines-after v s h k) in
       turns (rw e (or-true (leb textRoom (length w))))
       ∙ ap (λ (t : List ℕ). z .text ++ t) (after-sheet (z .play) [] (z .image) s no-feed)
       ∙ sym (ap₂ (λ (l : List ℕ) (ls : List (List ℕ)). started l m .text ++ runText (started l m .play) (started l m .image) ls) x y)
@@ -111,10 +110,10 @@ module _ (v m : List ℕ) (b : ℕ) (s : List ℕ) (h : belongs (feeds v) ≡ tr
     unfolding isWhole
     by-full f =
         let k = still-first v b h e in
-        let z = sheet-begins w s k in
+        let z = required-begins w s k in
         let x = bad-unended w k in
         let l = leb-true textRoom (length w) f in
-        let n : firstBad (sheetIn (w ++ s)) ≡ firstBad w = ap firstBad (z .1) ∙ sym (bad-early w (z .0) (omega arith)) in
+        let n : firstBad (requiredIn (w ++ s)) ≡ firstBad w = ap firstBad (z .1) ∙ sym (bad-early w (z .0) (omega arith)) in
         turns (rw f)
         ∙ ap (λ z. z .text ++ heldText (z .play) sheetLines [] (z .image) s) (started-bad w m x)
         ∙ ap (λ (t : List ℕ). badText (firstBad w) ++ t) (held-silent start [] m s)

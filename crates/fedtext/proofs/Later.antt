@@ -3,7 +3,7 @@ use Prim.Native.Nat.{ℕ, _+_, _≤_, _<_}
 use native.Mathlib.Omega.{arith}
 use mathlib.Core.Path.{_≡_, refl, sym, ap, _∙_}
 use mathlib.Core.List.{List, [], _∷_, _++_, append-assoc, append-nil}
-use mathlib.Core.Bool.{Bool, true, false, cond, _||_}
+use mathlib.Core.Bool.{Bool, true, false, cond, not, _||_}
 use lib.ListN.{length, take, length-append, length-take}
 use lib.Dec.{leb, ltb, eqb}
 use borrow.Author.Tests.{leb-true, lt-ltb, le-ltb, lt-leb, eqb-true, not-true}
@@ -11,9 +11,10 @@ use Rattle.wire.proofs.Laws.{by-cases, both-true, and-false, or-true}
 use Rattle.text.specs.Text.{allOf}
 use Rattle.text.specs.Lines.{lengthTo, headTo, ended, before, linesOf}
 use Rattle.text.proofs.LineLaws.{other}
-use Rattle.sheet.specs.Sheet.{sheetLines, lineAfter}
+use Rattle.sheet.specs.Sheet.{pauseRow, sheetLines, goodLine, isPauseLine, lineAfter}
 use Rattle.sheet.proofs.Laws.{sheet-over}
 use Rattle.sheets_back.specs.Feeds.{snoc}
+use Rattle.sheets_back.proofs.Short.{pause-short, good-short}
 use Rattle.tapline.specs.Line.{longest, isTapLine}
 use Rattle.printing.specs.Printing.{badText}
 use Rattle.recording.specs.declared.Play.{Play}
@@ -23,25 +24,30 @@ use Rattle.recorded.proofs.Steps.{ended-is-silent}
 use Rattle.player.specs.Feed.{playedHeld, linesWith, textRoom, isWhole, isCut}
 use Rattle.fedtext.proofs.Held.{endAs, heldText}
 
--- A LINE THAT IS NO TAP ends the play, with the same words whatever stands in it
+-- A LINE THAT IS NO TAP and no pause ends the play, with the same words whatever stands in it
+record Neither (l : List ℕ) : Type 0 where
+  tap : isTapLine l ≡ false
+  pause : isPauseLine l ≡ false
+
 abbrev pub stopText : Play → List ℕ
-stopText y = cond (y .ended) [] (badText (lineAfter (y .taps)))
+stopText y = cond (y .ended) [] (badText (lineAfter (y .paused) (y .taps)))
 
 abbrev pub stop : Play → List ℕ → Stepped
 stop y m = record { play = endedAt y; image = m; text = stopText y }
 
-no-tap : (y : Play) (m l : List ℕ) → isTapLine l ≡ false → stepped y m l ≡ stop y m
+neither : (y : Play) (m l : List ℕ) → Neither l → stepped y m l ≡ stop y m
 unfolding stepped
-no-tap y m l e = go (y .ended) refl
+neither y m l e = go (y .ended) refl
   where
     go : (c : Bool) → y .ended ≡ c → stepped y m l ≡ stop y m
     go true f = rw f
-    go false f = rw (f, e, and-false (ltb (y .taps) mostTaps))
+    go false f =
+        rw (f, e .pause, and-false (not (y .paused)), and-false (eqb (y .taps) 0), e .tap, and-false (ltb (y .taps) mostTaps))
 
-run-stops : (y : Play) (m l : List ℕ) (ls : List (List ℕ)) → isTapLine l ≡ false → runText y m (l ∷ ls) ≡ stopText y
+run-stops : (y : Play) (m l : List ℕ) (ls : List (List ℕ)) → Neither l → runText y m (l ∷ ls) ≡ stopText y
 unfolding runText
 run-stops y m l ls e =
-    ap (λ z. z .text ++ runText (z .play) (z .image) ls) (no-tap y m l e)
+    ap (λ z. z .text ++ runText (z .play) (z .image) ls) (neither y m l e)
     ∙ ap (λ (t : List ℕ). stopText y ++ t) (ended-is-silent y m ls)
     ∙ append-nil (stopText y)
 
@@ -121,7 +127,7 @@ lines-start x (w ∷ v) s h =
     let z = both-true (other 10 x) (allOf (other 10) (w ∷ v)) h in
     rw (not-true (eqb x 10) (z .0)) (before-starts x (w ∷ v) (linesOf ((w ∷ v) ++ s)) (lines-start w v s (z .1)))
 
--- they are no line of a tap
+-- they are no line of a tap, and no pause
 scan-over : (v r : List ℕ) → NoFeed v → lengthTo 10 (v ++ r) ≡ length v + lengthTo 10 r
 unfolding lengthTo allOf
 scan-over [] r h = omega arith
@@ -133,19 +139,26 @@ nothing-to-scan : lengthTo 10 [] ≡ 0
 unfolding lengthTo
 nothing-to-scan = refl
 
-unended : (v : List ℕ) → NoFeed v → isTapLine v ≡ false
-unfolding isTapLine ended headTo
+unended : (v : List ℕ) → NoFeed v → Neither v
+unfolding isTapLine isPauseLine goodLine ended headTo
 unended v h =
     let n : lengthTo 10 v ≡ length v = ap (lengthTo 10) (sym (append-nil v)) ∙ omega (arith, scan-over v [] h, nothing-to-scan) in
     let k : length v ≤ length (take (lengthTo 10 v) v) = omega (arith, n, length-take (lengthTo 10 v) v) in
-    rw (le-ltb _ _ k)
+    record { tap = rw (le-ltb _ _ k); pause = rw (le-ltb _ _ k) }
 
-too-long : (v r : List ℕ) → NoFeed v → textRoom ≤ length v → isTapLine (v ++ r) ≡ false
-unfolding isTapLine headTo
-too-long v r h k =
-    let l : List ℕ = v ++ r in
-    let n : longest < length (take (lengthTo 10 l) l) = omega (arith, scan-over v r h, length-take (lengthTo 10 l) l, length-append v r) in
-    rw (lt-leb _ _ n) (and-false (ended l))
+too-long : (v r : List ℕ) → NoFeed v → textRoom ≤ length v → Neither (v ++ r)
+unfolding isTapLine isPauseLine headTo
+too-long v r h k = record { tap = rw (lt-leb _ _ long) (and-false (ended l)); pause = go (isPauseLine l) refl }
+  where
+    l : List ℕ
+    l = v ++ r
+
+    long : longest < length (take (lengthTo 10 l) l)
+    long = omega (arith, scan-over v r h, length-take (lengthTo 10 l) l, length-append v r)
+
+    go : (b : Bool) → isPauseLine l ≡ b → isPauseLine l ≡ false
+    go true e = absurd (omega (arith, good-short pauseRow pause-short l e, long))
+    go false e = e
 
 -- WHEN A LINE IS WHOLE: at its line feed, and at one byte too many
 module _ (n b : ℕ) where
@@ -168,7 +181,7 @@ at-last y [] m h = ap (λ z. z .text) (line-end y [] m)
 at-last y (x ∷ v) m h =
     ap (λ z. z .text) (line-end y (x ∷ v) m)
     ∙ ap (λ (c : Bool). cond c (stepped y m (x ∷ v)) (finished y m) .text) (lt-ltb 0 (length (x ∷ v)) (omega arith))
-    ∙ ap (λ z. z .text) (no-tap y m (x ∷ v) (unended (x ∷ v) h))
+    ∙ ap (λ z. z .text) (neither y m (x ∷ v) (unended (x ∷ v) h))
     ∙ sym (ap (runText y m) (lines-alone x v h) ∙ run-stops y m (x ∷ v) [] (unended (x ∷ v) h))
 
 -- ONE MORE BYTE, where the bytes after it print what their lines print
@@ -188,7 +201,7 @@ module _ (y : Play) (v m : List ℕ) (b : ℕ) (s : List ℕ) (h : NoFeed v) whe
   unfolding heldText
   by-full e f =
       rw (at-full (length (snoc v b)) b e, f, line-held y (snoc v b) m)
-      (ap (λ z. z .text ++ heldText (z .play) sheetLines [] (z .image) s) (no-tap y m (snoc v b) (unended (snoc v b) (snoc-no-feed v b h e)))
+      (ap (λ z. z .text ++ heldText (z .play) sheetLines [] (z .image) s) (neither y m (snoc v b) (unended (snoc v b) (snoc-no-feed v b h e)))
       ∙ ap (λ (t : List ℕ). stopText y ++ t) (held-silent y [] m s)
       ∙ append-nil (stopText y))
 

@@ -6,15 +6,15 @@ use mathlib.Core.List.{List, [], _∷_, _++_, append-nil}
 use mathlib.Core.Bool.{true, false}
 use lib.ListN.{length, getD, drop, replicate, length-append}
 use lib.Seq.{take-at}
-use Rattle.wire.specs.Wire.{part, joined, be2}
-use Rattle.wire.proofs.Laws.{part-plain, alike-self}
+use Rattle.wire.specs.Wire.{part, joined, be2, alike}
+use Rattle.wire.proofs.Laws.{part-plain, part-none, alike-self}
 use Rattle.fields.specs.Fields.{View, headOf, tlv, wellFormed, viewOf, holds, twice, Tagged, fld, each, written}
 use Rattle.fields.proofs.Trip.{wellFormed-written, twice-written, holds-written}
 use Rattle.text.specs.Text.{ascii, hexDigit, hexOf}
 use Rattle.card.specs.declared.Face.{Face}
 use Rattle.card.specs.declared.Card.{Card}
-use Rattle.card.specs.Layout.{pinSize, imageRoom}
-use Rattle.card.specs.Values.{fresh}
+use Rattle.card.specs.Layout.{pinSize, heldRoom, imageRoom}
+use Rattle.card.specs.Values.{requestOf, noPending, fresh}
 use Rattle.card.specs.Image.{encode}
 use Rattle.cards.proofs.Round.{decode-encode}
 use Rattle.sheet.specs.Sheet.{firstBad}
@@ -24,12 +24,15 @@ use Rattle.sheets_back.proofs.Good.{sheet-is-card}
 use Rattle.manual.specs.declared.Command.the-variants.{ReadCard}
 use Rattle.manual.specs.declared.Lc.the-variants.{Body}
 use Rattle.manual.specs.declared.Verdict.the-variants.{Pass}
+use Rattle.manual.specs.declared.Pace.the-variants.{Goes}
 use Rattle.manual.specs.Words.{swProcessCompleted, responseRoom, drawSize}
 use Rattle.manual.specs.Tags.{PIN1}
 use Rattle.manual.specs.Request.{code, lcOf, insOf, payload}
 use Rattle.manual.specs.Row.{Matched, shaped, plain, allowed}
 use Rattle.manual.specs.Wallet.{readCard, curveName}
-use Rattle.manual.specs.Settle.{sentIn, judgedBy, judged, matched, Said, done, answered, said, saidTo, cardAfter, lent, settledOf, settled, roomy}
+use Rattle.manual.specs.Delay.{isHeld, paceBy}
+use Rattle.manual.specs.Settle.{sentIn, judgedBy, judged, matched, Said, done, answered, said, paceOf, leaving, paced, pacedTo}
+use Rattle.manual.specs.Settle.{cardAfter, lent, settledOf, settled, roomy}
 use Rattle.printing.specs.Printing.{feed}
 use Rattle.firstbytes.specs.Bytes.{freshFields}
 use Rattle.firstanswer.specs.First.{firstRequest, firstSettled, firstResponse, firstLine}
@@ -79,7 +82,7 @@ module _ (pin : List ℕ) (h : length pin ≡ pinSize) where
   unfolding sentIn
   pin-held = ap (λ p. holds PIN1 (viewOf p) pin) payload-is ∙ holds-written PIN1 sent short pin ∙ alike-self pin
 
-  module _ (c : Card) (k : c .codes .pin1 ≡ pin) (e : c .face .front .wallet .status ≡ 1) (d : List ℕ) where
+  module _ (c : Card) (k : c .codes .pin1 ≡ pin) (e : c .face .front .wallet .status ≡ 1) (w : c .face .pending ≡ noPending) (d : List ℕ) where
     abbrev q : List ℕ
     q = firstRequest pin
 
@@ -89,9 +92,18 @@ module _ (pin : List ℕ) (h : length pin ≡ pinSize) where
         ap (λ b. judgedBy b (sentIn q) (matched (c .codes) (sentIn q)) (c .face) q) formed
         ∙ passes q (sentIn q) (matched (c .codes) (sentIn q)) (c .face) lc refl refl refl refl pin-once (ap (λ p. holds PIN1 (sentIn q) p) k ∙ pin-held) e
 
-    said-is : saidTo c q d [] ≡ done readCard (matched (c .codes) (sentIn q)) (c .face) (sentIn q) d []
-    unfolding said answered shaped
-    said-is = rw verdict-is
+    -- 02 Ask 7: with nothing held and nothing counted READ_CARD, which needs no PIN2, does not wait
+    none-held : isHeld (c .face) q ≡ false
+    unfolding isHeld requestOf alike firstRequest
+    none-held = rw (w, part-none (replicate heldRoom 0) 0)
+
+    goes : paceOf (matched (c .codes) (sentIn q)) (c .face) q ≡ Goes
+    unfolding paceOf paceBy firstRequest insOf
+    goes = rw (verdict-is, none-held, w)
+
+    paced-is : pacedTo c q d [] ≡ leaving noPending (done readCard (matched (c .codes) (sentIn q)) (c .face) (sentIn q) d [])
+    unfolding paced said answered shaped
+    paced-is = rw (goes, verdict-is)
 
 -- WHAT SETTLE LEAVES of what is said with number 0: its length, and so many bytes at the front of the buffer
 pub part-over : (v rest : List ℕ) → part (v ++ rest) 0 (length v) ≡ v
@@ -111,16 +123,16 @@ module _ (s : List ℕ) where
   zeros = replicate drawSize 0
 
   fresh-said :
-      saidTo (sheetCard s) request zeros []
-      ≡ done readCard (matched (sheetCard s .codes) (sentIn request)) (sheetCard s .face) (sentIn request) zeros []
+      pacedTo (sheetCard s) request zeros []
+      ≡ leaving noPending (done readCard (matched (sheetCard s .codes) (sentIn request)) (sheetCard s .face) (sentIn request) zeros [])
   unfolding sheetCard fresh
-  fresh-said = said-is (sheetCodes s .pin1) (pin-size s) (sheetCard s) refl refl zeros
+  fresh-said = paced-is (sheetCodes s .pin1) (pin-size s) (sheetCard s) refl refl refl zeros
 
-  fresh-number : saidTo (sheetCard s) request zeros [] .number ≡ 0
+  fresh-number : pacedTo (sheetCard s) request zeros [] .number ≡ 0
   unfolding done
   fresh-number = ap (λ (z : Said). z .number) fresh-said
 
-  fresh-tells : saidTo (sheetCard s) request zeros [] .response ≡ written (freshFields s) ++ be2 swProcessCompleted
+  fresh-tells : pacedTo (sheetCard s) request zeros [] .response ≡ written (freshFields s) ++ be2 swProcessCompleted
   unfolding done sheetCard fresh
   fresh-tells = ap (λ (z : Said). z .response) fresh-said
 
@@ -128,7 +140,7 @@ module _ (s : List ℕ) where
   unfolding firstResponse firstSettled settled settledOf roomy
   fresh-response e =
       let c : Card = sheetCard s in
-      let z : Said = saidTo c request zeros [] in
+      let z : Said = pacedTo c request zeros [] in
       let t = told z (cardAfter z (c .codes) request) (replicate responseRoom 0) (replicate imageRoom 0) fresh-number in
       rw (sheet-is-card s e, decode-encode c (sheet-shape s)) (t ∙ fresh-tells)
 

@@ -3,6 +3,7 @@ use Prim.Native.Nat.{ℕ, zero, suc, _+_, _≤_}
 use native.Mathlib.Omega.{arith}
 use native.Mathlib.Decide.{ℕ-discrete}
 use mathlib.Core.Path.{_≡_}
+use mathlib.Core.Bool.{cond}
 use mathlib.Core.List.{List, [], _++_}
 use lib.ListN.{length, drop, replicate, length-append}
 use lib.Dec.{ltb}
@@ -13,8 +14,7 @@ use Rattle.text.specs.Text.{hexOf}
 use Rattle.text.specs.Lines.{startOf, fromLine}
 use Rattle.text.proofs.Laws.{length-hexOf}
 use Rattle.card.specs.Values.{fresh}
-use Rattle.sheet.specs.Sheet.{sheetLines, rowOf, goodLine, badFrom, firstBad}
-use Rattle.sheet.proofs.Laws.{bad-end}
+use Rattle.sheet.specs.Sheet.{pauseRow, optional, sheetLines, rowOf, goodLine, badAfter, badFrom, firstBad}
 use Rattle.personalise.specs.Personalise.{sheetCodes, sheetCard}
 use Rattle.personalise.proofs.Laws.{sheet-shape}
 use Rattle.manual.specs.declared.Command.the-variants.{ReadCard}
@@ -29,15 +29,21 @@ use Rattle.firstbytes.specs.Bytes.{freshFields, lineRoom}
 use Rattle.firstbytes.proofs.Bytes.{part-over, fresh-line}
 
 -- the number of a bad line is small
-bad-most : (n k : ℕ) (s : List ℕ) → badFrom n k s ≤ k + n
-unfolding badFrom
+end-most : (k j : ℕ) (s : List ℕ) → cond (ltb (startOf j s) (length s)) k 0 ≤ k
+end-most k j s = by-cases (λ (x : ℕ). x ≤ k) (ltb (startOf j s) (length s)) {x = k} {y = 0} (λ _. omega arith) (λ _. omega arith)
+
+bad-most : (n k : ℕ) (s : List ℕ) → badFrom n k s ≤ suc k + n
+unfolding badFrom badAfter optional
 bad-most zero k s =
-    rw (bad-end k s) (by-cases (λ (x : ℕ). x ≤ k + 0) (ltb (startOf k s) (length s)) {x = k} {y = 0} (λ _. omega arith) (λ _. omega arith))
+    by-cases (λ (x : ℕ). x ≤ suc k + 0) (goodLine pauseRow (fromLine k s)) {x = badAfter [] (suc k) s} {y = badAfter [] k s}
+    (λ _. omega (arith, end-most (suc k) (suc k) s))
+    (λ _. omega (arith, end-most k k s))
 bad-most (suc n) k s =
-    by-cases (λ (x : ℕ). x ≤ k + suc n) (goodLine (rowOf k) (fromLine k s)) {x = badFrom n (suc k) s} {y = k} (λ _. omega (arith, bad-most n (suc k) s))
+    by-cases (λ (x : ℕ). x ≤ suc k + suc n) (goodLine (rowOf k) (fromLine k s)) {x = badFrom n (suc k) s} {y = k}
+    (λ _. omega (arith, bad-most n (suc k) s))
     (λ _. omega arith)
 
-first-most : (s : List ℕ) → firstBad s ≤ 1 + sheetLines
+first-most : (s : List ℕ) → firstBad s ≤ 2 + sheetLines
 unfolding firstBad
 first-most s = bad-most sheetLines 1 s
 

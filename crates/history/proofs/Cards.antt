@@ -4,19 +4,25 @@ use native.Mathlib.Omega.{arith}
 use mathlib.Core.Path.{_≡_, refl, sym, _∙_}
 use mathlib.Core.List.{List, [], _∷_}
 use mathlib.Core.Bool.{true}
+use lib.ListN.{length}
 use borrow.Author.Tests.{le-leb}
 use Rattle.fields.specs.Fields.{View, written}
+use Rattle.card.specs.declared.Pending.{Pending}
 use Rattle.card.specs.declared.Face.{Face}
 use Rattle.card.specs.declared.Card.{Card}
+use Rattle.card.specs.Layout.{heldRoom}
 use Rattle.card.specs.Valid.{okFace}
 use Rattle.card.specs.Shape.{Shape}
+use Rattle.card.specs.Values.{noPending}
+use Rattle.cards.proofs.Shape.{shape-with-pending}
+use Rattle.kept.proofs.Waits.{no-pending-ok, keeps-pending}
 use Rattle.manual.specs.Words.{swProcessCompleted}
 use Rattle.manual.specs.Tags.{Signature}
 use Rattle.manual.specs.declared.Command.{Command}
 use Rattle.manual.specs.Request.{command}
 use Rattle.manual.specs.Row.{Matched, Question}
 use Rattle.manual.specs.Commands.{row}
-use Rattle.manual.specs.Settle.{sentIn, matched, judged, Said, fieldsOf, done, saidTo, recoded, cardAfter, questionsOf}
+use Rattle.manual.specs.Settle.{waiting, sentIn, matched, judged, Said, fieldsOf, done, paceOf, leaving, pacedTo, pacedQuestions, recoded, cardAfter}
 use Rattle.facts.proofs.Facts.{small-shape, facts, writes}
 use Rattle.story.specs.Sums.{Sheet, History, tap, isDone, accepted}
 use Rattle.history.proofs.Choice.{did-by}
@@ -35,10 +41,16 @@ done-is k m = done-word (row k .more m) (facts k .more m)
 
 -- THE CARD after a tap, and what was asked
 abbrev pub after : Card → List ℕ → List ℕ → List ℕ → Card
-after c q d a = cardAfter (saidTo c q d a) (c .codes) q
+after c q d a = cardAfter (pacedTo c q d a) (c .codes) q
 
 abbrev pub xs : Card → List ℕ → List ℕ → List Question
-xs c q d = questionsOf (judged (matched (c .codes) (sentIn q)) (c .face) q) (c .face) q d
+xs c q d =
+    let m : Matched = matched (c .codes) (sentIn q) in
+    pacedQuestions (paceOf m (c .face) q) (judged m (c .face) q) (c .face) q d
+
+-- a card with another wait
+pub shape-waiting : (p : Pending) (c : Card) → Shape c → length (p .request) ≡ heldRoom → Shape (waiting p c)
+shape-waiting p c s l = record { codes = s .codes; face = shape-with-pending (c .face) (s .face) p l }
 
 -- a card, and what its history shows
 pub record Fits (sh : Sheet) (c : Card) (h : History) : Type 0 where
@@ -66,18 +78,26 @@ module _ (c : Card) (q d a : List ℕ) where
   unfolding done
   shape-after s =
       by-tap (λ z _. Shape (cardAfter z (c .codes) q)) m f q d a
-      (λ n w z. s)
-      (λ _ z y. rw (y .face, y .codes) s)
-      (λ y g. record { codes = facts k .codes v (c .codes) (s .codes); face = facts k .shape f v a (s .face) })
+      kept
+      (λ _. kept)
+      (λ _ _.
+      shape-waiting noPending (record { face = g; codes = row k .recode v (c .codes) })
+      (record { codes = facts k .codes v (c .codes) (s .codes); face = facts k .shape f v a (s .face) }) refl)
+    where
+      kept : (z : Said) → Same f z → Shape (cardAfter z (c .codes) q)
+      kept z y = rw (y .face, y .codes) (shape-waiting (y .wait) c s (y .long (s .face .pending)))
 
   -- what is left of a card is a card
   pub stays-tap : okFace f ≡ true → okFace (after c q d a .face) ≡ true
   unfolding done
   stays-tap o =
       by-tap (λ z _. okFace (z .face) ≡ true) m f q d a
-      (λ n w z. o)
-      (λ _ s z. rw (z .face) o)
-      (λ y s. conduct k m f q d a y .stays o s)
+      kept
+      (λ _. kept)
+      (λ y s. keeps-pending g (conduct k m f q d a y .stays o s) noPending no-pending-ok)
+    where
+      kept : (z : Said) → Same f z → okFace (z .face) ≡ true
+      kept z y = rw (y .face) (keeps-pending f o (y .wait) (y .ok o))
 
   -- EVERY TAP keeps card and history in step; a refusal by one line
   module _ (sh : Sheet) (h : History) (i : Fits sh c h) where
@@ -87,7 +107,7 @@ module _ (c : Card) (q d a : List ℕ) where
     stays : (z : Said) → Same f z → Goal z []
     stays z e = rw (e .face, e .codes, look-none sh (tap q (z .response)) h (e .answer)) (i .inv)
 
-    keeps-done : Passed (row k) m f v → Goal (done (row k) m f v d a) []
+    keeps-done : Passed (row k) m f v → Goal (leaving noPending (done (row k) m f v d a)) []
     unfolding done
     keeps-done y =
         let fs = fieldsOf (row k) g v d a in
@@ -97,10 +117,10 @@ module _ (c : Card) (q d a : List ℕ) where
         let s = small-shape (facts k .shape f v a (i .shape .face)) in
         conduct k m f q d a y .keeps sh (c .codes) h r (i .inv) (did-by q r e) (sym (val-told Signature w fs (writes (facts k) g v d a s)))
 
-    inv-tap : Inv sh (watch (after c q d a .face)) (after c q d a .codes) (look sh (tap q (saidTo c q d a .response) ∷ h))
-    inv-tap = by-tap Goal m f q d a (λ n w z. stays _ z) (λ _ s z. stays s z) (λ y g. keeps-done y)
+    inv-tap : Inv sh (watch (after c q d a .face)) (after c q d a .codes) (look sh (tap q (pacedTo c q d a .response) ∷ h))
+    inv-tap = by-tap Goal m f q d a stays (λ _. stays) (λ y g. keeps-done y)
 
-    pub fits-tap : Fits sh (after c q d a) (tap q (saidTo c q d a .response) ∷ h)
+    pub fits-tap : Fits sh (after c q d a) (tap q (pacedTo c q d a .response) ∷ h)
     fits-tap = record { inv = inv-tap; shape = shape-after (i .shape) }
 
 -- where a call gave no response

@@ -13,8 +13,8 @@ use Rattle.fields.specs.Fields.{View, val, tlv, headOf, each, written}
 use Rattle.fields.proofs.Laws.{length-short, length-long}
 use Rattle.fields.proofs.Trip.{value-at, length-tlv}
 use Rattle.card.specs.declared.Card.{Card}
-use Rattle.card.specs.Layout.{cidSize, signatureSize, mostHashes}
-use Rattle.card.specs.Values.{fresh}
+use Rattle.card.specs.Layout.{cidSize, signatureSize, mostHashes, mostPause}
+use Rattle.card.specs.Values.{noPending, fresh}
 use Rattle.card.specs.Image.{encode, decode}
 use Rattle.card.specs.Valid.{curveKnown, okFlags}
 use Rattle.card.specs.Shape.{ShapeCodes, ShapeFixed}
@@ -29,17 +29,17 @@ use Rattle.manual.specs.Request.{command}
 use Rattle.manual.specs.Row.{Matched, Question, question, asked}
 use Rattle.manual.specs.Wallet.{isNew, count, hashQuestions}
 use Rattle.manual.specs.Commands.{row}
-use Rattle.manual.specs.Settle.{State, holding, Call, sentIn, matched, done, saidTo, cardAfter}
+use Rattle.manual.specs.Settle.{waiting, State, holding, Call, sentIn, matched, done, pacedTo, cardAfter}
 use Rattle.story.specs.Sums.{Sheet, tap, toldIn, isDone, accepted, did, signedNew, wallets}
 use Rattle.story.specs.Buffers.{questions, response, image}
-use Rattle.history.specs.Demands.{AnyCard, Demand2, signFields, Event, tapBy, imageBy, left, played, Fresh, signQuestions, Demand3}
-use Rattle.history.specs.Facts.{Unchanged, Cost, place, answersOf, nth}
+use Rattle.history.specs.Demands.{AnyCard, ButWait, Demand2, signFields, Event, tapBy, imageBy, left, played, Fresh, signQuestions, Demand3}
+use Rattle.history.specs.Facts.{Cost, place, answersOf, nth}
 use Rattle.history.proofs.Choice.{both-true, clash, did-sign}
 use Rattle.history.proofs.Taps.{Passed, carried}
 use Rattle.history.proofs.Sign.{needed}
 use Rattle.history.proofs.Cards.{after}
 use Rattle.history.proofs.Images.{model, by-call, response-is, image-is}
-use Rattle.history.proofs.Theorems.{demand3, refusal-keeps, every, keeps-where}
+use Rattle.history.proofs.Theorems.{demand3, refusal-keeps, every, waits-where}
 
 -- ON A CARD
 module _ (c : Card) (q d a : List ℕ) where
@@ -53,18 +53,19 @@ module _ (c : Card) (q d a : List ℕ) where
   m = matched (c .codes) (sentIn q)
 
   abbrev r : List ℕ
-  r = saidTo c q d a .response
+  r = pacedTo c q d a .response
 
-  -- the card after a command that was accepted
+  -- the card after a command that was accepted: nothing is held or counted
   pub after-done :
       (j : Command) → (accepted r ≡ true) × (k ≡ j)
-      → (Passed (row j) m (c .face) v) × (after c q d a ≡ record { face = row j .next (c .face) v a; codes = row j .recode v (c .codes) })
+      → (Passed (row j) m (c .face) v)
+      × (after c q d a ≡ waiting noPending (record { face = row j .next (c .face) v a; codes = row j .recode v (c .codes) }))
   unfolding done
   after-done j y =
       let b = carried m (c .face) q d a (y .0) in (
         subst (λ j. Passed (row j) m (c .face) v) (y .1) (b .passed),
         ap (λ z. cardAfter z (c .codes) q) (b .isDone)
-            ∙ ap (λ j. record { face = row j .next (c .face) v a; codes = row j .recode v (c .codes) }) (y .1),
+            ∙ ap (λ j. waiting noPending (record { face = row j .next (c .face) v a; codes = row j .recode v (c .codes) })) (y .1),
       )
 
   sign-cost : signedNew (tap q r) ≡ true → Cost c (after c q d a) (count v)
@@ -76,7 +77,7 @@ module _ (c : Card) (q d a : List ℕ) where
       let y = n .fits (w .1) in
       rw (z .1, w .1) (record { remaining = omega arith; signedHashes = omega arith; few = n .few (w .1) })
 
-  repeat-card : did Sign (tap q r) ≡ true → isNew v ≡ false → after c q d a ≡ c
+  repeat-card : did Sign (tap q r) ≡ true → isNew v ≡ false → after c q d a ≡ waiting noPending c
   repeat-card e n = after-done Sign (did-sign (tap q r) e) .1 ∙ rw n refl
 
 -- FIVE HASHES, or any number of them, cost one signature and count as five
@@ -102,16 +103,23 @@ five-hashes f h m i e l =
     let n : count (sentIn (i .request)) ≡ 5 = omega arith in
     subst (Cost (decode (m .image)) (decode (imageBy f m i))) n (sign-costs f h m i e)
 
--- THE REPEAT costs nothing and changes nothing
+-- THE REPEAT costs nothing and changes nothing, but that nothing is held or counted afterwards
+repeat-model :
+    (m : State) (i : Call) → did Sign (tapBy model m i) ≡ true → isNew (sentIn (i .request)) ≡ false → ButWait noPending (m .image) (imageBy model m i)
+unfolding accepted
+repeat-model m i e n =
+    by-call (λ z. did Sign (tap (i .request) (response z)) ≡ true → ButWait noPending (m .image) (image (m .image) z)) m i
+    (λ n k e. clash (rw k at e) refl)
+    (λ o _ _ y. waits-where m i o (repeat-card (decode (m .image)) (i .request) (i .draw) (i .answers) (rw (response-is m i) at y) n))
+    e
+
 pub repeat-free :
     (f : AnyCard) → Demand2 f → (m : State) (i : Call) → did Sign (tapBy f m i) ≡ true → isNew (sentIn (i .request)) ≡ false
-    → Unchanged (m .image) (imageBy f m i)
+    → ButWait noPending (m .image) (imageBy f m i)
 repeat-free =
-    every (λ f. (m : State) (i : Call) → did Sign (tapBy f m i) ≡ true → isNew (sentIn (i .request)) ≡ false → Unchanged (m .image) (imageBy f m i))
-    (λ m i e n.
-    keeps-where (λ z. did Sign (tap (i .request) (response z)) ≡ true) m i
-    (λ y. repeat-card (decode (m .image)) (i .request) (i .draw) (i .answers) (rw (response-is m i) at y) n)
-    e)
+    every
+    (λ f. (m : State) (i : Call) → did Sign (tapBy f m i) ≡ true → isNew (sentIn (i .request)) ≡ false → ButWait noPending (m .image) (imageBy f m i))
+    repeat-model
 
 -- A REFUSED COMMAND has used nothing up: no signature, no hash, no counter
 pub refusal-free :
@@ -119,7 +127,7 @@ pub refusal-free :
     → (decode (imageBy f m i) .face .front .wallet ≡ decode (m .image) .face .front .wallet)
     × (decode (imageBy f m i) .face .front .counters ≡ decode (m .image) .face .front .counters)
 refusal-free f h m i e =
-    let u = refusal-keeps f h m i e .card in
+    let u = refusal-keeps f h m i e .1 .card in
     (ap (λ c. c .face .front .wallet) u, ap (λ c. c .face .front .counters) u)
 
 -- WHERE THE SIGNATURES STAND
@@ -203,10 +211,10 @@ signature-of-hash f h sh m e es i provider s n l a k u =
 
 -- FRESH CARDS there are: the image of a sheet in its ranges
 pub fresh-image :
-    (sh : Sheet) → ShapeFixed (sh .fixed) → ShapeCodes (sh .codes) → curveKnown (sh .fixed) ≡ true → 1 ≤ sh .fixed .max → okFlags (sh .flags) ≡ true
-    → Fresh sh (encode (fresh (sh .fixed) (sh .flags) (sh .codes)))
-fresh-image sh x k curve max flags =
+    (sh : Sheet) → ShapeFixed (sh .fixed) → ShapeCodes (sh .codes) → curveKnown (sh .fixed) ≡ true → 1 ≤ sh .fixed .max
+    → sh .fixed .pause ≤ mostPause → okFlags (sh .flags) ≡ true → Fresh sh (encode (fresh (sh .fixed) (sh .flags) (sh .codes)))
+fresh-image sh x k curve max pause flags =
     record {
-      card = fresh-is-card (sh .fixed) (sh .flags) (sh .codes) x k curve max flags;
+      card = fresh-is-card (sh .fixed) (sh .flags) (sh .codes) x k curve max pause flags;
       spells = decode-encode (fresh (sh .fixed) (sh .flags) (sh .codes)) (shape-fresh (sh .fixed) (sh .flags) (sh .codes) x k);
     }

@@ -20,10 +20,10 @@ use Rattle.manual.specs.Tags.{TransactionHash, Signature}
 use Rattle.manual.specs.declared.Command.the-variants.{CreateWallet, Sign, PurgeWallet}
 use Rattle.manual.specs.Row.{Question, question, asked}
 use Rattle.manual.specs.Wallet.{isNew, count}
-use Rattle.manual.specs.Settle.{State, holding, Call, sentIn, saidTo}
+use Rattle.manual.specs.Settle.{State, holding, Call, sentIn, pacedTo}
 use Rattle.story.specs.Sums.{Sheet, Tap, History, tap, toldIn, accepted, did, signedNew, wallets, status, made}
 use Rattle.story.specs.Buffers.{questions, response, image}
-use Rattle.history.specs.Demands.{AnyCard, Demand2, given, Event, tapped, tapBy, imageBy, Fresh, Demand3}
+use Rattle.history.specs.Demands.{AnyCard, Demand2, given, Event, tapped, switchedOff, tapBy, imageBy, adds, Fresh, Demand3}
 use Rattle.history.specs.Facts.{Forgotten, answersOf, nth, stateAfter, historyOf, Made, Original}
 use Rattle.history.proofs.Choice.{both-true, clash, one-ins, did-purge}
 use Rattle.history.proofs.Events.{played-more, one-by-one}
@@ -34,10 +34,10 @@ use Rattle.history.proofs.Theorems.{every}
 use Rattle.history.proofs.Corollaries.{after-done, signature-of-hash}
 
 -- A PURGE takes key and signatures, and leaves the rest
-purge-card : (c : Card) (q d a : List ℕ) → did PurgeWallet (tap q (saidTo c q d a .response)) ≡ true → Forgotten c (after c q d a)
+purge-card : (c : Card) (q d a : List ℕ) → did PurgeWallet (tap q (pacedTo c q d a .response)) ≡ true → Forgotten c (after c q d a)
 unfolding fit put room
 purge-card c q d a e =
-    rw (after-done c q d a PurgeWallet (did-purge (tap q (saidTo c q d a .response)) e) .1)
+    rw (after-done c q d a PurgeWallet (did-purge (tap q (pacedTo c q d a .response)) e) .1)
     (record {
       state = refl;
       key = refl;
@@ -100,8 +100,23 @@ module _ (f : AnyCard) (sh : Sheet) (m : List ℕ) (past : List Event) where
   abbrev Sourced : List Event → Type 0
   Sourced es = status sh (H es) ≡ 2 → 1 ≤ made (H es) → Made f m past es (given (H es))
 
-  one-tap-more : (es : List Event) (i : Call) → H (es ++ (tapped i ∷ [])) ≡ tapBy f (S es) i ∷ H es
-  one-tap-more es i = ap (historyOf f m) (sym (append-assoc past es (tapped i ∷ []))) ∙ played-more f (holding m) [] (past ++ es) (tapped i)
+  one-event-more : (es : List Event) (e : Event) → H (es ++ (e ∷ [])) ≡ adds f (S es) e ++ H es
+  one-event-more es e = ap (historyOf f m) (sym (append-assoc past es (e ∷ []))) ∙ played-more f (holding m) [] (past ++ es) e
+
+  -- an event more that makes none, and no wallet
+  made-before :
+      (es : List Event) (e : Event) {x y : List ℕ} → Made f m past es x → wallets (H (es ++ (e ∷ []))) ≡ wallets (H es) → y ≡ x
+      → Made f m past (es ++ (e ∷ [])) y
+  made-before es e z w t =
+      record {
+        before = z .before;
+        call = z .call;
+        after = z .after ++ (e ∷ []);
+        whole = ap (λ l. l ++ (e ∷ [])) (z .whole) ∙ append-assoc (z .before) (tapped (z .call) ∷ z .after) (e ∷ []);
+        signed = z .signed;
+        wallet = z .wallet ∙ sym w;
+        told = t ∙ z .told;
+      }
 
   sourced-more : (es : List Event) (e : Event) → Sourced es → Sourced (es ++ (e ∷ []))
   sourced-more es (tapped i) p s n = go (signedNew t) refl
@@ -110,7 +125,7 @@ module _ (f : AnyCard) (sh : Sheet) (m : List ℕ) (past : List Event) where
       t = tapBy f (S es) i
 
       more : H (es ++ (tapped i ∷ [])) ≡ t ∷ H es
-      more = one-tap-more es i
+      more = one-event-more es (tapped i)
 
       go : (b : Bool) → signedNew t ≡ b → Made f m past (es ++ (tapped i ∷ [])) (given (H (es ++ (tapped i ∷ []))))
       go true e =
@@ -126,16 +141,10 @@ module _ (f : AnyCard) (sh : Sheet) (m : List ℕ) (past : List Event) where
           }
       go false e =
           let y = as-before sh t (H es) (ap (status sh) (sym more) ∙ s) (subst (λ h. 1 ≤ made h) more n) e in
-          let z = p (y .state) (y .some) in
-          record {
-            before = z .before;
-            call = z .call;
-            after = z .after ++ (tapped i ∷ []);
-            whole = ap (λ l. l ++ (tapped i ∷ [])) (z .whole) ∙ append-assoc (z .before) (tapped (z .call) ∷ z .after) (tapped i ∷ []);
-            signed = z .signed;
-            wallet = z .wallet ∙ sym (ap wallets more ∙ y .wallet);
-            told = ap given more ∙ (y .given ∙ z .told);
-          }
+          made-before es (tapped i) (p (y .state) (y .some)) (ap wallets more ∙ y .wallet) (ap given more ∙ y .given)
+  sourced-more es (switchedOff nxt) p s n =
+      let more : H (es ++ (switchedOff nxt ∷ [])) ≡ H es = one-event-more es (switchedOff nxt) in
+      made-before es (switchedOff nxt) (p (ap (status sh) (sym more) ∙ s) (subst (λ h. 1 ≤ made h) more n)) (ap wallets more) (ap given more)
 
   sourced : (status sh (H []) ≡ 2 → ⊥) → (es : List Event) → Sourced es
   sourced none = one-by-one Sourced (λ s n. absurd (none s)) sourced-more

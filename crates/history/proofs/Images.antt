@@ -10,7 +10,7 @@ use lib.Dec.{leb, eqb}
 use borrow.Author.Tests.{le-leb}
 use Rattle.wire.specs.Wire.{joined}
 use Rattle.card.specs.declared.Card.{Card}
-use Rattle.card.specs.Layout.{imageSize}
+use Rattle.card.specs.Layout.{imageSize, imageRoom}
 use Rattle.card.specs.Image.{encode, decode}
 use Rattle.card.specs.Valid.{isCard}
 use Rattle.card.specs.Shape.{Shape}
@@ -18,29 +18,35 @@ use Rattle.cards.proofs.Shape.{length-encode}
 use Rattle.cards.proofs.Round.{decode-encode, shape-decode, is-card-length}
 use Rattle.manual.specs.Words.{questionsRoom, drawSize}
 use Rattle.manual.specs.Row.{asked, eachAsked}
-use Rattle.manual.specs.Settle.{State, holding, Call, sentIn, matched, Said, done, saidTo}
+use Rattle.manual.specs.Delay.{pendingOff}
+use Rattle.manual.specs.Settle.{State, holding, Call, sentIn, matched, Said, done, pacedTo}
 use Rattle.manual.specs.Settle.{cardAfter, Settled, settled, settledOf, lent, untouched, outcome, roomy, askCall, Posed, posedBy, askedFor, askedFrom, askedOf}
+use Rattle.manual.specs.Settle.{Off, offBy, cardOff, poweredOff}
 use Rattle.story.specs.Sums.{Sheet, History, tap}
-use Rattle.story.specs.Buffers.{questions, response, image}
-use Rattle.history.specs.Demands.{AnyCard, stop, askStop, settleStop, Demand2, Event, tapped, tapBy, imageBy, left, played, Fresh, OneMore, Demand3}
+use Rattle.story.specs.Buffers.{questions, response, image, imageOff}
+use Rattle.history.specs.Demands.{AnyCard, stop, askStop, settleStop, Demand2}
+use Rattle.history.specs.Demands.{Event, tapped, switchedOff, tapBy, imageBy, left, played, Fresh, OneMore, Demand3}
 use Rattle.history.proofs.Choice.{by-cases, clash}
-use Rattle.history.proofs.Taps.{by-tap}
+use Rattle.history.proofs.Taps.{Same, by-tap}
 use Rattle.history.proofs.Seen.{look, watch, Inv, at-first}
-use Rattle.history.proofs.Cards.{after, xs, shape-after, Fits, fits-tap, fits-none}
+use Rattle.history.proofs.Cards.{after, xs, shape-waiting, shape-after, Fits, fits-tap, fits-none}
 use Rattle.history.proofs.Next.{one-more, no-more}
 
 -- THE MANUAL as a card
 abbrev pub model : AnyCard
-model = record { taps = record { ask = askedFor; settle = settled } }
+model = record { taps = record { ask = askedFor; settle = settled }; powerOff = poweredOff }
 
 -- numbers other than 0 have no response, and leave the card
-pub quiet : (c : Card) (q d a : List ℕ) → eqb (saidTo c q d a .number) 0 ≡ false → (saidTo c q d a .response ≡ []) × (after c q d a ≡ c)
+pub quiet : (c : Card) (q d a : List ℕ) → eqb (pacedTo c q d a .number) 0 ≡ false → (pacedTo c q d a .response ≡ []) × (after c q d a ≡ c)
 unfolding done
 quiet c q d a =
     by-tap (λ z _. eqb (z .number) 0 ≡ false → (z .response ≡ []) × (cardAfter z (c .codes) q ≡ c)) (matched (c .codes) (sentIn q)) (c .face) q d a
-    (λ _ w z n. clash refl n)
-    (λ _ s z n. (z .silence n, rw (z .face, z .codes) refl))
+    leaves
+    (λ _. leaves)
     (λ y g n. clash refl n)
+  where
+    leaves : (s : Said) → Same (c .face) s → eqb (s .number) 0 ≡ false → (s .response ≡ []) × (cardAfter s (c .codes) q ≡ c)
+    leaves s z n = let y = z .silence n in (y .0, rw (y .1, z .codes) refl)
 
 -- WHAT THE CALLER READS out of lent buffers
 read-response :
@@ -69,7 +75,7 @@ read-image m s c out nxt h =
 
 -- what the manual says and leaves at a call, and in its buffers
 abbrev pub saidAt : State → Call → Said
-saidAt m i = saidTo (decode (m .image)) (i .request) (i .draw) (i .answers)
+saidAt m i = pacedTo (decode (m .image)) (i .request) (i .draw) (i .answers)
 
 abbrev pub cardAt : State → Call → Card
 cardAt m i = after (decode (m .image)) (i .request) (i .draw) (i .answers)
@@ -204,11 +210,36 @@ more-call sh m h i e =
     (λ n k. rw k (no-more sh (decode (m .image)) h e i (questions (askedFor m i)) (asks-some m i) (asks-none m i)))
     (λ x y z. rw (response-is m i) (one-more sh (decode (m .image)) h e i (questions (askedFor m i)) (asks-some m i) (asks-all m i x z) (asks-none m i)))
 
+-- A POWER-OFF: numbers 1 and 2, or the card is looked at
+pub by-off :
+    (P : Off → Type 0) (m : State) (nxt : List ℕ) → ((n : ℕ) → eqb n 0 ≡ false → P (offBy n nxt))
+    → (isCard (m .image) ≡ true → P (offBy 0 (encode (cardOff (decode (m .image))) ++ drop imageSize nxt))) → P (poweredOff m nxt)
+unfolding poweredOff
+by-off P m nxt f g = by-stop P (isCard (m .image)) (leb imageRoom (length nxt)) true (λ n. offBy n nxt) f (λ o _ _. g o)
+
+module _ (m : List ℕ) (o : isCard m ≡ true) where
+  pub shape-off : Shape (cardOff (decode m))
+  shape-off = shape-waiting (pendingOff (decode m .face .pending)) (decode m) (shape-decode m (is-card-length m o)) refl
+
+  pub image-off : (nxt : List ℕ) → imageOff m (offBy 0 (encode (cardOff (decode m)) ++ drop imageSize nxt)) ≡ encode (cardOff (decode m))
+  image-off nxt = take-at (encode (cardOff (decode m))) (drop imageSize nxt) imageSize (length-encode (cardOff (decode m)) shape-off)
+
+-- keeps both as they are
+fits-off :
+    (sh : Sheet) (m : State) (h : History) (nxt : List ℕ) → Fits sh (decode (m .image)) h → Fits sh (decode (imageOff (m .image) (poweredOff m nxt))) h
+fits-off sh m h nxt e =
+    by-off (λ z. Fits sh (decode (imageOff (m .image) z)) h) m nxt
+    (λ n k. rw k e)
+    (λ o.
+    rw (image-off (m .image) o nxt, decode-encode (cardOff (decode (m .image))) (shape-off (m .image) o))
+    (record { inv = e .inv; shape = shape-off (m .image) o }))
+
 -- any calls keep it
 fits-all :
     (sh : Sheet) (m : State) (h : History) (es : List Event) → Fits sh (decode (m .image)) h → Fits sh (decode (left model m es .image)) (played model m h es)
 fits-all sh m h [] e = e
 fits-all sh m h (tapped i ∷ es) e = fits-all sh (holding (imageBy model m i)) (tapBy model m i ∷ h) es (fits-call sh m h i e)
+fits-all sh m h (switchedOff nxt ∷ es) e = fits-all sh (holding (imageOff (m .image) (poweredOff m nxt))) h es (fits-off sh m h nxt e)
 
 fits-fresh : (sh : Sheet) (m : List ℕ) → Fresh sh m → Fits sh (decode m) []
 fits-fresh sh m e =
@@ -240,8 +271,12 @@ model-demand3 =
 
 -- and demand 2, which is to be the manual
 pub model-demand2 : Demand2 model
-model-demand2 = record { asks = λ m i. refl; settles = λ m i. refl }
+model-demand2 = record { asks = λ m i. refl; settles = λ m i. refl; turnsOff = λ m nxt. refl }
 
 -- a card that meets demand 2 is the manual
 pub is-model : (f : AnyCard) → Demand2 f → model ≡ f
-is-model f h = λ j. record { taps = record { ask = λ m i. sym (h .asks m i) j; settle = λ m i. sym (h .settles m i) j } }
+is-model f h =
+    λ j. record {
+      taps = record { ask = λ m i. sym (h .asks m i) j; settle = λ m i. sym (h .settles m i) j };
+      powerOff = λ m nxt. sym (h .turnsOff m nxt) j;
+    }

@@ -1,4 +1,5 @@
 pub mod Choice
+pub mod Delay
 pub mod Taps
 pub mod Seen
 pub mod Conduct
@@ -21,6 +22,7 @@ pub mod Waking
 pub mod Notes
 pub mod Story
 pub mod Rejected
+pub mod Hurried
 pub mod Entries
 pub mod Twice
 pub mod Proud

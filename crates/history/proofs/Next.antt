@@ -12,7 +12,7 @@ use Rattle.fields.specs.Fields.{View, has, val, holds, tlv, each, written, amon
 use Rattle.card.specs.declared.Face.{Face}
 use Rattle.card.specs.declared.Card.{Card}
 use Rattle.card.specs.Layout.{top16}
-use Rattle.card.specs.Values.{u16, lastOf}
+use Rattle.card.specs.Values.{u16, noPending, withPending, lastOf}
 use Rattle.manual.specs.Words.{swProcessCompleted, questionsRoom}
 use Rattle.manual.specs.Tags.{CID, CVC, Status, Challenge, ActivationSeed, TransactionHash}
 use Rattle.manual.specs.Tags.{Signature, Remaining, SignedHashes}
@@ -23,7 +23,7 @@ use Rattle.manual.specs.Row.{Matched, Question, question, asked, eachAsked, sha
 use Rattle.manual.specs.Wallet.{isLoaded, isActive, readCard, createWallet, sign, isNew, count, hashQuestions}
 use Rattle.manual.specs.Checking.{checkWallet, keyAsked, keyMessage, salt}
 use Rattle.manual.specs.Commands.{row}
-use Rattle.manual.specs.Settle.{Call, sentIn, matched, fieldsOf, done, saidTo}
+use Rattle.manual.specs.Settle.{Call, sentIn, matched, fieldsOf, done, pacedTo}
 use Rattle.facts.proofs.Facts.{Small, small-shape, facts, writes}
 use Rattle.story.specs.Sums.{Sheet, History, tap, toldIn, accepted, ins, did, signedNew, active, status, wallets, everPurged, made, total, usesWallet}
 use Rattle.history.specs.Demands.{signFields, signResponse, Entitled, NewSign, signQuestions, Asks, nothing, due, allKinds, Poses, isCardKind, mayAsk}
@@ -73,16 +73,16 @@ module _ (sh : Sheet) (c : Card) (h : History) (i : Fits sh c h) (t : Call) wher
   f = c .face
 
   abbrev r : List ℕ
-  r = saidTo c (t .request) (t .draw) (t .answers) .response
+  r = pacedTo c (t .request) (t .draw) (t .answers) .response
 
-  -- the face after
+  -- the face after, but for the wait
   abbrev g : Face
   g = row k .next f v a
 
   small-after : Small g
   small-after = small-shape (facts k .shape f v a (i .shape .face))
 
-  carried-by : accepted r ≡ true → Carried (row k) m f v d a (saidTo c q d a) (xs c q d)
+  carried-by : accepted r ≡ true → Carried (row k) m f v d a (pacedTo c q d a) (xs c q d)
   carried-by e = carried m f q d a e
 
   -- the response to a tap that was accepted, by its fields
@@ -98,7 +98,7 @@ module _ (sh : Sheet) (c : Card) (h : History) (i : Fits sh c h) (t : Call) wher
       ap (λ z. val tag (toldIn (z .response))) (carried-by e .isDone)
       ∙ val-told tag (swProcessCompleted + row k .more m) (fieldsOf (row k) g v d a) (writes (facts k) g v d a small-after)
 
-  face-after : accepted r ≡ true → after c q d a .face ≡ g
+  face-after : accepted r ≡ true → after c q d a .face ≡ withPending noPending g
   unfolding done
   face-after e = ap (λ z. z .face) (carried-by e .isDone)
 
@@ -176,7 +176,7 @@ module _ (sh : Sheet) (c : Card) (h : History) (i : Fits sh c h) (t : Call) wher
   asks-by j Due these e may =
       let by : Passed (row k) m f v → Asks Due these (asked (row k .questions f v d)) =
       subst (λ l. Passed (row l) m f v → Asks Due these (asked (row l .questions f v d))) (sym e) may in
-      by-tap (λ _ y. Asks Due these (asked y)) m f q d a (λ n w z. nothing refl) (λ p s z. by p) (λ p g. by p)
+      by-tap (λ _ y. Asks Due these (asked y)) m f q d a (λ s z. nothing refl) (λ p s z. by p) (λ p g. by p)
 
   sign-due : (b : Bool) → isNew v ≡ b → Passed sign m f v → Asks (NewSign sh h v) (signQuestions sh h v) (asked (sign .questions f v d))
   unfolding asked eachAsked joined
@@ -213,7 +213,7 @@ module _ (sh : Sheet) (c : Card) (h : History) (i : Fits sh c h) (t : Call) wher
       (λ n. allKinds (λ j. may-ask q (status sh h) j n) (row k .questions f v d))
       ∙ (λ n. allKinds (mayAsk (code k) (sym (i .inv .status) n)) (row k .questions f v d))
       ∙ conduct k m f q d a p .asks in
-      by-tap (λ _ y. allKinds (mayAsk (ins q) (status sh h)) y ≡ true) m f q d a (λ n w z. refl) (λ p s z. may p) (λ p g. may p)
+      by-tap (λ _ y. allKinds (mayAsk (ins q) (status sh h)) y ≡ true) m f q d a (λ s z. refl) (λ p s z. may p) (λ p g. may p)
 
   -- SIGN, new or again
   sign-bytes : did Sign (tap q r) ≡ true → r ≡ signResponse sh (tap q r ∷ h) (lastOf (g .last))
@@ -275,7 +275,7 @@ module _ (sh : Sheet) (c : Card) (h : History) (i : Fits sh c h) (t : Call) wher
       (x : List ℕ) → (questionsRoom ≤ length (t .buffers .page) → x ≡ asked (xs c q d)) → did ActivateCard (tap q r) ≡ true → Woken sh h (tap q r) t x
   woken x hx e =
       let y = did-activate (tap q r) e in
-      let w = woke sh f (c .codes) h (i .inv) v d a (subst (λ j. Carried (row j) m f v d a (saidTo c q d a) (xs c q d)) (y .1) (carried-by (y .0))) in
+      let w = woke sh f (c .codes) h (i .inv) v d a (subst (λ j. Carried (row j) m f v d a (pacedTo c q d a) (xs c q d)) (y .1) (carried-by (y .0))) in
       record { isDue = w .isDue; questions = λ u. hx u ∙ w .questions; answers = w .answers; bytes = w .bytes }
 
   -- what READ_CARD tells of the seed
@@ -300,14 +300,14 @@ module _ (sh : Sheet) (c : Card) (h : History) (i : Fits sh c h) (t : Call) wher
       let by : Passed (row k) m f v → Sleeper k = λ p. sleeper k (or-other (row k .needs .asleep) (isActive f) (p .awake) o) in
       let may : Passed (row k) m f v → allKinds isWakeKind (row k .questions f v d) ≡ true = λ p. by p .kinds f v d in (
         λ u. ap whileAsleep (listed-ins q (lists m f q d a u)) ∙ by (carried-by u .passed) .ins,
-        by-tap (λ _ y. allKinds isWakeKind y ≡ true) m f q d a (λ n w z. refl) (λ p s z. may p) (λ p g. may p),
+        by-tap (λ _ y. allKinds isWakeKind y ≡ true) m f q d a (λ s z. refl) (λ p s z. may p) (λ p g. may p),
       )
 
   ended-by : sh .flags .reusable ≡ 0 → everPurged h ≡ true → usesWallet (ins q) ≡ true → (accepted r ≡ false) × (xs c q d ≡ [])
   ended-by n e u =
       let no-way : Passed (row k) m f v → ⊥ = λ p. conduct k m f q d a p .alive (uses-by q u) (i .inv .status ∙ i .inv .purged n e) in
       by-tap (λ z y. (accepted (z .response) ≡ false) × (y ≡ [])) m f q d a
-      (λ n w z. (z .answer, refl))
+      (λ s z. (z .answer, refl))
       (λ p z k. absurd (no-way p))
       (λ p k. absurd (no-way p))
 

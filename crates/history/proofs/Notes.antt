@@ -5,30 +5,34 @@ use native.Mathlib.Omega.{arith}
 use mathlib.Core.Path.{_≡_, refl, sym, ap, _∙_, subst}
 use mathlib.Core.List.{List, [], _∷_, _++_}
 use mathlib.Core.Bool.{Bool, true, false, cond, not, _||_}
+use lib.ListN.{length}
 use lib.Dec.{ltb, eqb}
 use borrow.Author.Tests.{le-ltb}
-use Rattle.fields.specs.Fields.{holds, wellFormed}
+use Rattle.fields.specs.Fields.{holds, wellFormed, written}
 use Rattle.card.specs.declared.Face.{Face}
 use Rattle.card.specs.declared.Card.{Card}
+use Rattle.card.specs.Values.{noPending, withPending}
 use Rattle.card.specs.Image.{decode}
-use Rattle.manual.specs.Words.{swInvalidParams, swInvalidStatus}
+use Rattle.cards.proofs.Round.{decode-encode}
+use Rattle.manual.specs.Words.{swInvalidParams, swInvalidStatus, swNeedPause}
 use Rattle.manual.specs.Tags.{CVC}
 use Rattle.manual.specs.declared.Command.{Command}
 use Rattle.manual.specs.declared.Command.the-variants.{WriteIssuerData}
 use Rattle.manual.specs.declared.Verdict.{Verdict}
 use Rattle.manual.specs.declared.Verdict.the-variants.{Pass, Stop}
+use Rattle.manual.specs.declared.Outcome.{Outcome}
 use Rattle.manual.specs.Request.{command, payload}
-use Rattle.manual.specs.Row.{Question, Rule, rule, gateOf, asksCvc, headRules, formRules, entryRules, rules, passed}
+use Rattle.manual.specs.Row.{Matched, Question, Rule, rule, gateOf, asksCvc, headRules, formRules, entryRules, rules, passed}
 use Rattle.manual.specs.Storage.{guarded, sentCounter, writeIssuerData}
 use Rattle.manual.specs.Commands.{row}
-use Rattle.manual.specs.Row.{Matched}
-use Rattle.manual.specs.Settle.{State, holding, Call, sentIn, matched, Said, refused, done, judgedBy, said, saidBy, saidTo}
-use Rattle.manual.specs.declared.Outcome.{Outcome}
-use Rattle.manual.specs.Settle.{cardAfter, settled, settledOf, outcome, lent}
+use Rattle.manual.specs.Delay.{paceBy, pauseFields}
+use Rattle.manual.specs.Settle.{State, holding, Call, sentIn, matched, judgedBy, judged, Said, refused, done, said, paceOf, paced, pacedTo}
+use Rattle.manual.specs.Settle.{Settled, settled, settledOf, outcome, lent, cardOff, poweredOff}
 use Rattle.story.specs.Sums.{tap, isDone, accepted, did}
-use Rattle.story.specs.Buffers.{response, image}
-use Rattle.history.specs.Demands.{AnyCard, isRefusal, settleStop, Demand2, Event, tapped, tapBy, imageBy, left}
+use Rattle.story.specs.Buffers.{response, image, imageOff}
+use Rattle.history.specs.Demands.{AnyCard, isRefusal, settleStop, Demand2, Event, tapped, switchedOff, tapBy, imageBy, left}
 use Rattle.history.specs.Facts.{Refused, NoteUpTo, noteCounter, protected}
+use Rattle.history.specs.Waiting.{waitOf}
 use Rattle.history.specs.Wrong.{oldRows}
 use Rattle.history.specs.Wrong.{judgedBy as rowsJudge}
 use Rattle.history.proofs.Choice.{clash, did-note, by-ins}
@@ -37,57 +41,60 @@ use Rattle.history.proofs.Conduct.{Climbs, same}
 use Rattle.history.proofs.Storage.{above}
 use Rattle.history.proofs.Commands.{conduct}
 use Rattle.history.proofs.Cards.{after, xs}
-use Rattle.history.proofs.Images.{model, saidAt, cardAt, looked, by-call, response-is, image-is, asks-none}
-use Rattle.history.proofs.Theorems.{every, keeps-where}
+use Rattle.history.proofs.Images.{model, saidAt, cardAt, looked, by-call, response-is, image-is, asks-none, by-off, shape-off, image-off}
+use Rattle.history.proofs.Theorems.{every, refused-card, stays-where}
 
--- A NOTE THAT IS TOO OLD, on a card: refused by checks 1 to 12
-record Old (f : Face) (s : Said) (x : List Question) : Type 0 where
-  word : isRefusal (s .reason) (s .word) ≡ true
+-- A NOTE THAT IS TOO OLD, on a card: refused by checks 1 to 12, or to wait
+too-old :
+    (c : Card) (q : List ℕ) → guarded (c .face) ≡ true → command q ≡ WriteIssuerData → sentCounter (sentIn q) ≤ c .face .held .issuer .counter
+    → Passed (row (command q)) (matched (c .codes) (sentIn q)) (c .face) (sentIn q) → ⊥
+too-old c q g e l h =
+    let m : Matched = matched (c .codes) (sentIn q) in
+    omega (arith, above m (c .face) (sentIn q) (subst (λ j. Passed (row j) m (c .face) (sentIn q)) e h) g)
+
+record Old (s : Said) (x : List Question) : Type 0 where
+  number : s .number ≡ 0
+  word : eqb (s .word) swNeedPause ≡ false → isRefusal (s .reason) (s .word) ≡ true
   refusal : isDone (s .word) ≡ false
-  said : s ≡ refused (s .reason) (s .word) f
+  answer : accepted (s .response) ≡ false
   asks : x ≡ []
 
 old-card :
     (c : Card) (q d a : List ℕ) → guarded (c .face) ≡ true → command q ≡ WriteIssuerData → sentCounter (sentIn q) ≤ c .face .held .issuer .counter
-    → Old (c .face) (saidTo c q d a) (xs c q d)
+    → Old (pacedTo c q d a) (xs c q d)
 old-card c q d a g e l =
-    let m : Matched = matched (c .codes) (sentIn q) in
-    let no-way : Passed (row (command q)) m (c .face) (sentIn q) → ⊥ =
-    λ h. omega (arith, above m (c .face) (sentIn q) (subst (λ j. Passed (row j) m (c .face) (sentIn q)) e h) g) in
-    by-outcome (Old (c .face)) m (c .face) q d a
-    (λ n w x y. record { word = x; refusal = y; said = refl; asks = refl })
-    (λ h _. absurd (no-way h))
-    (λ h. absurd (no-way h))
-    (λ h _. absurd (no-way h))
+    let no-way = too-old c q g e l in
+    by-outcome (λ s _ _ x. Old s x) (matched (c .codes) (sentIn q)) (c .face) q d a
+    (λ n w h. record { number = refl; word = λ _. h .word; refusal = h .notDone; answer = accepts [] w ∙ h .notDone; asks = refl })
+    (λ t h.
+    record { number = refl; word = λ e. clash refl e; refusal = refl; answer = accepts (written (pauseFields t)) swNeedPause; asks = refl })
+    (λ h _. absurd (no-way (h .passed)))
+    (λ h _ _. absurd (no-way (h .passed)))
+    (λ h _ _. absurd (no-way (h .passed)))
 
-result-is : (s : Said) (n w : ℕ) (f : Face) (c : Card) (out nxt : List ℕ) → s ≡ refused n w f → lent s c out nxt .result ≡ outcome 0 n w 2
+result-is : (s : Said) (c : Card) (out nxt : List ℕ) → s .number ≡ 0 → lent s c out nxt .result ≡ outcome 0 (s .reason) (s .word) (length (s .response))
 unfolding lent
-result-is s n w f c out nxt e = ap (λ z. lent z c out nxt .result) e
+result-is s c out nxt e = rw e refl
 
 old-model : (m : State) (i : Call) → protected (m .image) ≡ true → NoteUpTo (noteCounter (m .image)) i → Refused model m i
 unfolding settled settledOf accepted
 old-model m i g n =
-    let s : Said = saidAt m i in
     let o = old-card (decode (m .image)) (i .request) (i .draw) (i .answers) g (by-ins WriteIssuerData refl (i .request) (n .command)) (n .counter) in
+    let r = result-is (saidAt m i) (cardAt m i) (i .buffers .out) (i .buffers .next) (o .number) in
     record {
       asks = asks-none m i (o .asks);
-      answer =
-          by-call (λ z. accepted (response z) ≡ false) m i
-          (λ n k. rw k refl)
-          (λ _ _ _. ap accepted (response-is m i) ∙ (ap (λ z. accepted (z .response)) (o .said) ∙ (accepts [] (s .word) ∙ o .refusal)));
+      answer = by-call (λ z. accepted (response z) ≡ false) m i (λ n k. rw k refl) (λ _ _ _. ap accepted (response-is m i) ∙ o .answer);
       word = λ e.
-          rw (looked m i e)
-          (ap (λ (z : Outcome). isRefusal (z .reason) (z .word))
-          (result-is s (s .reason) (s .word) (decode (m .image) .face) (cardAt m i) (i .buffers .out) (i .buffers .next) (o .said))
-          ∙ o .word);
-      stays = keeps-where (λ _. Unit {0}) m i (λ _. ap (λ z. cardAfter z (decode (m .image) .codes) (i .request)) (o .said)) tt;
+          subst (λ (z : Settled). eqb (z .result .word) swNeedPause ≡ false → isRefusal (z .result .reason) (z .result .word) ≡ true) (sym (looked m i e))
+          (subst (λ (z : Outcome). eqb (z .word) swNeedPause ≡ false → isRefusal (z .reason) (z .word) ≡ true) (sym r) (o .word));
+      stays = stays-where m i (λ _. Unit {0}) (λ _. refused-card (decode (m .image)) (i .request) (i .draw) (i .answers) (o .refusal)) tt;
     }
 
--- A NOTE WHOSE COUNTER IS NOT ABOVE THE STORED ONE is refused, and the stored one stays
+-- A NOTE WHOSE COUNTER IS NOT ABOVE THE STORED ONE is refused, or has to wait, and the stored one stays
 pub old-note : (f : AnyCard) → Demand2 f → (m : State) (i : Call) → protected (m .image) ≡ true → NoteUpTo (noteCounter (m .image)) i → Refused f m i
 old-note = every (λ f. (m : State) (i : Call) → protected (m .image) ≡ true → NoteUpTo (noteCounter (m .image)) i → Refused f m i) old-model
 
--- A NOTE THAT IS RIGHT IN ALL BUT ITS COUNTER, so that the old practice card took it, gets 6985 by check 12, and nothing else
+-- A NOTE THAT IS RIGHT IN ALL BUT ITS COUNTER, so that the old practice card took it, gets 6985 by check 12, and nothing else, where it need not wait
 last-fails :
     (rs : List Rule) (g : Verdict) {k : Command} (w : ℕ) → gateOf (rs ++ (rule 12 true w ∷ [])) g ≡ Pass k
     → gateOf (rs ++ (rule 12 false w ∷ [])) g ≡ Stop 12 w
@@ -113,39 +120,47 @@ module _ (c : Card) (q d a : List ℕ) where
       ∷ [] in
       headRules q ++ (formRules r (c .face) (wellFormed (payload q)) v q ++ (entryRules r m (c .face) v ++ o))
 
-  late-card :
+  late-verdict :
       guarded (c .face) ≡ true → command q ≡ WriteIssuerData → sentCounter (sentIn q) ≤ c .face .held .issuer .counter → {k : Command}
-      → rowsJudge oldRows c q ≡ Pass k → saidTo c q d a ≡ refused 12 swInvalidStatus (c .face)
-  unfolding said judgedBy
-  late-card g e l t =
+      → rowsJudge oldRows c q ≡ Pass k → judged m (c .face) q ≡ Stop 12 swInvalidStatus
+  unfolding judgedBy
+  late-verdict g e l t =
       let n = c .face .held .issuer .counter in
       let x : ltb n (sentCounter (sentIn q)) ≡ false = le-ltb n (sentCounter (sentIn q)) l in
       let o : writeIssuerData .conditions m (c .face) (sentIn q) ≡ false = rw (g, x) refl in
       let y : gateOf (others ++ (rule 12 true swInvalidStatus ∷ [])) (passed q) ≡ Pass _ =
       ap (λ j. gateOf (rules (oldRows j) m (c .face) (wellFormed (payload q)) (sentIn q) q) (passed q)) (sym e) ∙ t in
-      let z : gateOf (rules (row (command q)) m (c .face) (wellFormed (payload q)) (sentIn q) q) (passed q) ≡ Stop 12 swInvalidStatus =
       ap (λ j. gateOf (rules (row j) m (c .face) (wellFormed (payload q)) (sentIn q) q) (passed q)) e
       ∙ ap (λ b. gateOf (others ++ (rule 12 b swInvalidStatus ∷ [])) (passed q)) o
-      ∙ last-fails others (passed q) swInvalidStatus y in
-      ap (λ w. saidBy w m (c .face) q d a) z
+      ∙ last-fails others (passed q) swInvalidStatus y
+
+  -- what the card says to what check 12 refuses, where it need not wait
+  late-card :
+      judged m (c .face) q ≡ Stop 12 swInvalidStatus → waitOf c q ≡ 0 → pacedTo c q d a ≡ refused 12 swInvalidStatus (withPending noPending (c .face))
+  unfolding paced paceOf paceBy said
+  late-card z w = rw (z, w, z) refl
 
 pub late-note :
     (f : AnyCard) → Demand2 f → (s : State) (i : Call) → protected (s .image) ≡ true → NoteUpTo (noteCounter (s .image)) i → settleStop s i ≡ 0
-    → {k : Command} → rowsJudge oldRows (decode (s .image)) (i .request) ≡ Pass k → f .taps .settle s i .result ≡ outcome 0 12 swInvalidStatus 2
-unfolding settledOf
-late-note f h s i g n e t =
-    let u = late-card (decode (s .image)) (i .request) (i .draw) (i .answers) g (by-ins WriteIssuerData refl (i .request) (n .command)) (n .counter) t in
+    → waitOf (decode (s .image)) (i .request) ≡ 0 → {k : Command} → rowsJudge oldRows (decode (s .image)) (i .request) ≡ Pass k
+    → f .taps .settle s i .result ≡ outcome 0 12 swInvalidStatus 2
+unfolding settledOf lent
+late-note f h s i g n e w t =
+    let c = decode (s .image) in
+    let v = late-verdict c (i .request) (i .draw) (i .answers) g (by-ins WriteIssuerData refl (i .request) (n .command)) (n .counter) t in
     ap (λ y. y .result) (h .settles s i ∙ looked s i e)
-    ∙ result-is (saidAt s i) 12 swInvalidStatus (decode (s .image) .face) (cardAt s i) (i .buffers .out) (i .buffers .next) u
+    ∙ ap (λ z. lent z (cardAt s i) (i .buffers .out) (i .buffers .next) .result) (late-card c (i .request) (i .draw) (i .answers) v w)
 
 -- THE STORED COUNTER of a protected card never falls
 climbs-tap : (c : Card) (q d a : List ℕ) → guarded (c .face) ≡ true → Climbs (c .face) (after c q d a .face)
 unfolding done
 climbs-tap c q d a g =
     by-tap (λ z _. Climbs (c .face) (z .face)) (matched (c .codes) (sentIn q)) (c .face) q d a
-    (λ n w z. same refl refl)
+    (λ s z. rw (z .face) (same refl refl))
     (λ _ s z. rw (z .face) (same refl refl))
-    (λ y _. conduct (command q) (matched (c .codes) (sentIn q)) (c .face) q d a y .climbs g)
+    (λ y _.
+    let x = conduct (command q) (matched (c .codes) (sentIn q)) (c .face) q d a y .climbs g in
+    record { replay = x .replay; counter = x .counter })
 
 climbs-call : (m : State) (i : Call) → protected (m .image) ≡ true → Climbs (decode (m .image) .face) (decode (imageBy model m i) .face)
 climbs-call m i g =
@@ -153,23 +168,35 @@ climbs-call m i g =
     (λ n k. rw k (same refl refl))
     (λ o _ _. rw (image-is m i o) (climbs-tap (decode (m .image)) (i .request) (i .draw) (i .answers) g))
 
+climbs-off : (m : State) (nxt : List ℕ) → Climbs (decode (m .image) .face) (decode (imageOff (m .image) (poweredOff m nxt)) .face)
+climbs-off m nxt =
+    by-off (λ z. Climbs (decode (m .image) .face) (decode (imageOff (m .image) z) .face)) m nxt
+    (λ n k. rw k (same refl refl))
+    (λ o.
+    rw (image-off (m .image) o nxt, decode-encode (cardOff (decode (m .image))) (shape-off (m .image) o)) (same refl refl))
+
 still-protected : {f g : Face} → Climbs f g → guarded f ≡ true → guarded g ≡ true
 still-protected x g = ap (λ n. eqb n 1) (x .replay) ∙ g
+
+and-then : {f g h : Face} → Climbs f g → Climbs g h → Climbs f h
+and-then x y = record { replay = y .replay ∙ x .replay; counter = omega (arith, x .counter, y .counter) }
 
 climbs-all : (m : State) (es : List Event) → protected (m .image) ≡ true → Climbs (decode (m .image) .face) (decode (left model m es .image) .face)
 climbs-all m [] g = same refl refl
 climbs-all m (tapped i ∷ es) g =
     let x = climbs-call m i g in
-    let y = climbs-all (holding (imageBy model m i)) es (still-protected x g) in
-    record { replay = y .replay ∙ x .replay; counter = omega (arith, x .counter, y .counter) }
+    and-then x (climbs-all (holding (imageBy model m i)) es (still-protected x g))
+climbs-all m (switchedOff nxt ∷ es) g =
+    let x = climbs-off m nxt in
+    and-then x (climbs-all (holding (imageOff (m .image) (poweredOff m nxt))) es (still-protected x g))
 
 -- A NOTE THAT WAS ACCEPTED: its counter is stored
 stored-card :
-    (c : Card) (q d a : List ℕ) → guarded (c .face) ≡ true → did WriteIssuerData (tap q (saidTo c q d a .response)) ≡ true
+    (c : Card) (q d a : List ℕ) → guarded (c .face) ≡ true → did WriteIssuerData (tap q (pacedTo c q d a .response)) ≡ true
     → after c q d a .face .held .issuer .counter ≡ sentCounter (sentIn q)
 unfolding done
 stored-card c q d a g e =
-    let y = did-note (tap q (saidTo c q d a .response)) e in
+    let y = did-note (tap q (pacedTo c q d a .response)) e in
     let b = carried (matched (c .codes) (sentIn q)) (c .face) q d a (y .0) in
     ap (λ z. z .face .held .issuer .counter) (b .isDone) ∙ (ap (λ j. row j .next (c .face) (sentIn q) a .held .issuer .counter) (y .1) ∙ rw g)
 

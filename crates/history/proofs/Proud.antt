@@ -10,6 +10,7 @@ use Rattle.fields.specs.Fields.{View}
 use Rattle.card.specs.declared.Face.{Face}
 use Rattle.card.specs.declared.Card.{Card}
 use Rattle.card.specs.Layout.{imageSize}
+use Rattle.card.specs.Values.{noPending, withPending}
 use Rattle.card.specs.Image.{encode, decode}
 use Rattle.card.specs.Valid.{isCard}
 use Rattle.manual.specs.Words.{swErrorProcessingCommand, questionsRoom, drawSize}
@@ -18,15 +19,18 @@ use Rattle.manual.specs.declared.Command.the-variants.{ReadCard, CreateWallet, 
 use Rattle.manual.specs.declared.Command.the-variants.{ReadUserData, WriteUserData, WriteIssuerData, ReadIssuerData, ActivateCard}
 use Rattle.manual.specs.declared.Verdict.{Verdict}
 use Rattle.manual.specs.declared.Verdict.the-variants.{Pass, Stop}
+use Rattle.manual.specs.declared.Pace.{Pace}
+use Rattle.manual.specs.declared.Pace.the-variants.{Refused, Waits, Goes}
 use Rattle.manual.specs.Request.{code, command}
 use Rattle.manual.specs.Row.{Matched, Row, asked, shaped}
 use Rattle.manual.specs.Wallet.{readCard, readFields}
 use Rattle.manual.specs.Commands.{row}
-use Rattle.manual.specs.Settle.{State, Call, sentIn, matched, wordOf, reasonOf, Said, silent, refused, done, answered, lent, roomy, untouched, outcome, posed, posedBy}
-use Rattle.manual.specs.Settle.{askedFor, settled}
+use Rattle.manual.specs.Delay.{paceBy, pendingAfter}
+use Rattle.manual.specs.Settle.{State, Call, sentIn, matched, pacedReason, pacedWord, Said, silent, refused, done, answered, lent, roomy, untouched, outcome}
+use Rattle.manual.specs.Settle.{posed, posedBy, askedFor, settled}
 use Rattle.story.specs.Buffers.{image}
 use Rattle.history.specs.Demands.{imageBy}
-use Rattle.history.specs.Wrong.{judgedBy, asksBy, saysBy, leavesBy, but, withFieldsOut, boasting, proud}
+use Rattle.history.specs.Wrong.{asksAt, saysAt, judgedBy, pacedBy, asksBy, saysBy, leavesBy, but, withFieldsOut, boasting, proud}
 use Rattle.history.proofs.Taps.{by-checks}
 use Rattle.history.proofs.Images.{model, stages, image-lent}
 use Rattle.history.proofs.Rejected.{honest-accepted}
@@ -53,6 +57,12 @@ like WriteIssuerData = refl
 like ReadIssuerData = refl
 like ActivateCard = refl
 
+-- no pace hangs on that
+pace-mum : (z : Verdict) (r : Row) (m : Matched) (f : Face) (v : View) (q : List ℕ) → paceBy z r m f v q ≡ paceBy z (mum r) m f v q
+unfolding paceBy
+pace-mum (Pass k) r m f v q = refl
+pace-mum (Stop n w) r m f v q = refl
+
 -- of an answered command, what does not hang on what it tells
 record Core (x y : Said) : Type 0 where
   number : x .number ≡ y .number
@@ -70,9 +80,27 @@ core-mum r m f v d a = go (shaped (r .questions f v d) a) (r .confirmed a)
     go true false = record { number = refl; face = refl; executed = refl }
     go false c = record { number = refl; face = refl; executed = refl }
 
+core-paced : (p : Pace) (f : Face) (q : List ℕ) {x y : Said} → Core x y → Core (saysAt p f q x) (saysAt p f q y)
+core-paced (Refused b) f q z =
+    let w = pendingAfter (Refused b) (f .pending) q in
+    record { number = z .number; face = λ j. cond (eqb (z .number j) 0) (withPending w (z .face j)) (z .face j); executed = z .executed }
+core-paced (Waits t) f q z = record { number = refl; face = refl; executed = refl }
+core-paced Goes f q z =
+    record { number = z .number; face = λ j. cond (eqb (z .number j) 0) (withPending noPending (z .face j)) (z .face j); executed = z .executed }
+
 module _ (c : Card) (q d a : List ℕ) where
   same-verdict : judgedBy rows c q ≡ judgedBy row c q
   same-verdict = ap (λ (r : Row). judgedBy (λ _. r) c q) (like (command q))
+
+  -- its rows need PIN2 where the manual's do
+  same-pace : pacedBy rows c q ≡ pacedBy row c q
+  same-pace =
+      let m = matched (c .codes) (sentIn q) in
+      let z = judgedBy row c q in
+      ap (λ z. paceBy z (rows (command q)) m (c .face) (sentIn q) q) same-verdict
+      ∙ pace-mum z (rows (command q)) m (c .face) (sentIn q) q
+      ∙ ap (λ r. paceBy z r m (c .face) (sentIn q) q) (like (command q))
+      ∙ sym (pace-mum z (row (command q)) m (c .face) (sentIn q) q)
 
   same-asks : (z : Verdict) → asksBy rows z c q d ≡ asksBy row z c q d
   same-asks (Stop n w) = refl
@@ -92,13 +120,13 @@ module _ (c : Card) (q d a : List ℕ) where
       }
 
   abbrev proudly : Said
-  proudly = saysBy rows (judgedBy rows c q) c q d a
+  proudly = saysAt (pacedBy rows c q) (c .face) q (saysBy rows (judgedBy rows c q) c q d a)
 
   abbrev honestly : Said
-  honestly = saysBy row (judgedBy row c q) c q d a
+  honestly = saysAt (pacedBy row c q) (c .face) q (saysBy row (judgedBy row c q) c q d a)
 
   core : Core proudly honestly
-  core = rw same-verdict (same-core (judgedBy row c q))
+  core = rw (same-pace, same-verdict) (core-paced (pacedBy row c q) (c .face) q (same-core (judgedBy row c q)))
 
   leaves-alike : leavesBy rows c q proudly ≡ leavesBy row c q honestly
   leaves-alike =
@@ -114,10 +142,11 @@ module _ (c : Card) (q d a : List ℕ) where
 
     says-alike : proudly ≡ honestly
     says-alike =
-        ap (λ z. saysBy rows z c q d a) same-verdict
-        ∙ by-checks (row (command q)) (matched (c .codes) (sentIn q)) (c .face) q (λ z. saysBy rows z c q d a ≡ saysBy row z c q d a)
+        (λ n. saysAt (same-pace n) (c .face) q (saysBy rows (same-verdict n) c q d a))
+        ∙ ap (saysAt (pacedBy row c q) (c .face) q)
+        (by-checks (row (command q)) (matched (c .codes) (sentIn q)) (c .face) q (λ z. saysBy rows z c q d a ≡ saysBy row z c q d a)
         (λ n w _ _ _. refl)
-        (λ _. ap (λ r. answered r (matched (c .codes) (sentIn q)) (c .face) (sentIn q) d a) same-row)
+        (λ _. ap (λ r. answered r (matched (c .codes) (sentIn q)) (c .face) (sentIn q) d a) same-row))
 
 module _ (s : State) (i : Call) where
   abbrev c0 : Card
@@ -125,13 +154,12 @@ module _ (s : State) (i : Call) where
 
   pub proud-asks : proud .taps .ask s i ≡ askedFor s i
   proud-asks =
+      let p = same-pace c0 (i .request) (i .draw) (i .answers) in
       let e = same-verdict c0 (i .request) (i .draw) (i .answers) in
+      let x = ap (λ z. asksBy rows z c0 (i .request) (i .draw)) e ∙ same-asks c0 (i .request) (i .draw) (i .answers) (judgedBy row c0 (i .request)) in
       stages (λ z. z) (λ z. z) (λ n. posedBy (outcome n 0 0 0) (i .buffers .page)) (λ n. refl) (isCard (s .image)) (leb questionsRoom (length (i .buffers .page)))
       (eqb (length (i .draw)) drawSize)
-      (λ n.
-      posed (reasonOf (e n)) (wordOf (e n))
-      (asked ((ap (λ z. asksBy rows z c0 (i .request) (i .draw)) e ∙ same-asks c0 (i .request) (i .draw) (i .answers) (judgedBy row c0 (i .request))) n))
-      (i .buffers .page))
+      (λ n. posed (pacedReason (p n) (e n)) (pacedWord (p n) (e n)) (asked (asksAt (p n) (x n))) (i .buffers .page))
       ∙ honest-accepted .asks s i
 
   pub proud-leaves : imageBy proud s i ≡ imageBy model s i

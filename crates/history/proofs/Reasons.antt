@@ -1,7 +1,7 @@
 -- REASONS, of any card that meets demand 2: which check a reason names, what it tells of the status word, and that ask and settle agree. Assumes nothing.
 use Prim.Native.Nat.{ℕ, zero, suc, _≤_}
 use native.Mathlib.Omega.{arith}
-use mathlib.Core.Path.{_≡_, refl, sym, ap, _∙_, subst}
+use mathlib.Core.Path.{_≡_, refl, ap, _∙_, subst}
 use mathlib.Core.List.{List, [], _∷_}
 use mathlib.Core.Bool.{Bool, true, false, _&&_, _||_}
 use lib.ListN.{length, getD}
@@ -10,7 +10,7 @@ use borrow.Author.Tests.{eq-eqb, ne-eqb, leb-true, leb-false}
 use Rattle.fields.specs.Fields.{View}
 use Rattle.card.specs.declared.Face.{Face}
 use Rattle.card.specs.Image.{decode}
-use Rattle.manual.specs.Words.{swProcessCompleted, swErrorProcessingCommand, swNeedEncryption, swInvalidParams, questionsRoom}
+use Rattle.manual.specs.Words.{swProcessCompleted, swErrorProcessingCommand, swNeedEncryption, swInvalidParams, swNeedPause, questionsRoom}
 use Rattle.manual.specs.declared.Command.{Command}
 use Rattle.manual.specs.declared.Command.the-variants.{ReadCard, CreateWallet, CheckWallet, SetPin, Sign, VerifyCard, ValidateCard, PurgeWallet}
 use Rattle.manual.specs.declared.Command.the-variants.{ReadUserData, WriteUserData, WriteIssuerData, ReadIssuerData, ActivateCard}
@@ -18,13 +18,15 @@ use Rattle.manual.specs.declared.Outcome.{Outcome}
 use Rattle.manual.specs.Request.{command}
 use Rattle.manual.specs.Row.{Matched, exactly, fitting, shaped, Rule}
 use Rattle.manual.specs.Commands.{row}
-use Rattle.manual.specs.Settle.{State, Call, askCall, sentIn, matched, judgedBy, reasonOf, wordOf, Said, done, answered, said, saidBy, cardAfter, Posed}
+use Rattle.manual.specs.Settle.{State, Call, askCall, sentIn, matched, Said, done, cardAfter, Posed}
 use Rattle.manual.specs.Settle.{settled, settledOf, outcome, lent, askedFor, askedOf, Settled}
 use Rattle.story.specs.Sums.{isDone}
 use Rattle.history.specs.Demands.{AnyCard, askStop, settleStop, checkWord, isRefusal, Demand2}
 use Rattle.history.specs.Facts.{checksAt, FirstFails, AllHold, Reasoned, AsksIssuer, note, activation, SaidNo, Alike, alike, thirteen}
-use Rattle.history.proofs.Choice.{by-cases, both-true, clash}
-use Rattle.history.proofs.Taps.{by-checks, in-range, by-word, not-done, all-hold}
+use Rattle.history.specs.Waiting.{waitOf}
+use Rattle.history.proofs.Choice.{both-true, clash}
+use Rattle.history.proofs.Delay.{Delayed}
+use Rattle.history.proofs.Taps.{in-range, by-word, not-done, not-pause, by-outcome}
 use Rattle.history.proofs.Cards.{done-is}
 use Rattle.history.proofs.Images.{askedAt, settledAt, looked, looked-ask, both-look, by-call, by-ask}
 use Rattle.history.proofs.Theorems.{every}
@@ -90,44 +92,64 @@ module _ (s : State) (i : Call) where
       let z = unconfirmed k f (sentIn (i .request)) (i .draw) (i .answers) y n in
       record { others = h; issuer = z .asks; shape = y; no = z .byte }
 
-  -- THE RESULT of a call whose card is looked at: by the first check to fail, or where all hold
-  module _ (P : Outcome → Type 0) (no-way : (n w l : ℕ) → isRefusal n w ≡ true → FirstFails n (checksAt s i) → P (outcome 0 n w l)) where
-    asked-by : (AllHold (checksAt s i) → (l : ℕ) → P (outcome 0 0 swProcessCompleted l))
-        → P (askedAt s i .result)
-    unfolding askedOf judgedBy
+  -- what settle says, lent
+  abbrev resultOf : Said → Outcome
+  resultOf z = lent z (cardAfter z (decode (s .image) .codes) (i .request)) (i .buffers .out) (i .buffers .next) .result
+
+  -- THE RESULT of a call whose card is looked at: by the first check to fail, a pause, or where all hold
+  module _
+      (P : Outcome → Type 0) (no-way : (n w l : ℕ) → isRefusal n w ≡ true → FirstFails n (checksAt s i) → P (outcome 0 n w l))
+      (waits : (t l : ℕ) → Delayed (row k) x f (i .request) t → P (outcome 0 0 swNeedPause l)) where
+    asked-by : (AllHold (checksAt s i) → (l : ℕ) → P (outcome 0 0 swProcessCompleted l)) → P (askedAt s i .result)
+    unfolding askedOf
     asked-by yes-way =
-        by-checks (row k) x f (i .request) (λ z. (l : ℕ) → P (outcome 0 (reasonOf z) (wordOf z) l))
-        (λ n w e _ h l. no-way n w l e h) (λ h. yes-way (all-hold (checksAt s i) h)) _
+        by-outcome (λ _ n w _. (l : ℕ) → P (outcome 0 n w l)) x f (i .request) (i .draw) (i .answers)
+        (λ n w h l. no-way n w l (h .word) (h .first)) (λ t h l. waits t l h) (λ h _. yes-way (h .all)) (λ h _ _. yes-way (h .all)) (λ h _ _. yes-way (h .all)) _
 
     settled-by :
         (AllHold (checksAt s i) → shaped (row k .questions f (sentIn (i .request)) (i .draw)) (i .answers) ≡ false → P (outcome 4 0 0 0))
         → (SaidNo s i → P (outcome 0 13 swErrorProcessingCommand 2))
         → (AllHold (checksAt s i) → row k .confirmed (i .answers) ≡ true → (w l : ℕ) → isDone w ≡ true → P (outcome 0 0 w l)) → P (settledAt s i .result)
-    unfolding settledOf said judgedBy answered lent done
+    unfolding settledOf lent done
     settled-by four thirteenth yes-way =
-        let Q : Said → Type 0 = λ z. P (lent z (cardAfter z (decode (s .image) .codes) (i .request)) (i .buffers .out) (i .buffers .next) .result) in
-        by-checks (row k) x f (i .request) (λ z. Q (saidBy z x f (i .request) (i .draw) (i .answers)))
-        (λ n w e _ h. no-way n w 2 e h)
-        (λ h.
-        let g = all-hold (checksAt s i) h in
-        by-cases Q (shaped (row k .questions f (sentIn (i .request)) (i .draw)) (i .answers))
-        (λ y. by-cases Q (row k .confirmed (i .answers)) (λ t. yes-way g t _ _ (done-is k x)) (λ n. thirteenth (said-no g y n)))
-        (λ n. four g n))
+        by-outcome (λ z _ _ _. P (resultOf z)) x f (i .request) (i .draw) (i .answers)
+        (λ n w h. no-way n w 2 (h .word) (h .first))
+        (λ t h. waits t _ h)
+        (λ h n. four (h .all) n)
+        (λ h y n. thirteenth (said-no (h .all) y n))
+        (λ h _ t. yes-way (h .all) t _ _ (done-is k x))
+
+  -- ask and settle, of the same request and draw
+  alike-at : (page : List ℕ) → Alike (askedAt s (askCall (i .request) (i .draw) page) .result .reason) (settledAt s i .result .reason)
+  unfolding askedOf settledOf lent done
+  alike-at page =
+      by-outcome (λ z n _ _. Alike n (resultOf z .reason)) x f (i .request) (i .draw) (i .answers)
+      (λ n w h. alike refl) (λ t h. alike refl) (λ h _. alike refl) (λ h _ _. thirteen refl refl) (λ h _ _. alike refl)
+
+  -- n fails first, and the request need not wait if that is after check 10: then it does not
+  goes-on : (n : ℕ) → FirstFails n (checksAt s i) → (11 ≤ n → waitOf (decode (s .image)) (i .request) ≡ 0) → (t : ℕ) → Delayed (row k) x f (i .request) t → ⊥
+  goes-on n h prompt t d = go (leb 11 n) refl
+    where
+      go : (b : Bool) → leb 11 n ≡ b → ⊥
+      go true e = omega (arith, d .some, d .isLeft, prompt (leb-true 11 n e))
+      go false e = clash (d .holds n (omega (arith, leb-false 11 n e))) (h .fails)
 
 -- ask and settle, whatever they are given: numbers other than 0 have no reason
 asked-cases :
     (P : Outcome → Type 0) (s : State) (i : Call) → ((n : ℕ) → eqb n 0 ≡ false → P (outcome n 0 0 0))
-    → ((n w l : ℕ) → isRefusal n w ≡ true → FirstFails n (checksAt s i) → P (outcome 0 n w l))
+    → ((n w l : ℕ) → isRefusal n w ≡ true → FirstFails n (checksAt s i) → P (outcome 0 n w l)) → ((l : ℕ) → P (outcome 0 0 swNeedPause l))
     → ((l : ℕ) → P (outcome 0 0 swProcessCompleted l)) → P (askedFor s i .result)
-asked-cases P s i stopped no-way yes-way = by-ask (λ (z : Posed). P (z .result)) s i stopped (asked-by s i P no-way (λ _. yes-way))
+asked-cases P s i stopped no-way waits yes-way =
+    by-ask (λ (z : Posed). P (z .result)) s i stopped (asked-by s i P no-way (λ t l _. waits l) (λ _. yes-way))
 
 settled-cases :
     (P : Outcome → Type 0) (s : State) (i : Call) → ((n : ℕ) → eqb n 0 ≡ false → P (outcome n 0 0 0))
-    → ((n w l : ℕ) → isRefusal n w ≡ true → FirstFails n (checksAt s i) → P (outcome 0 n w l))
+    → ((n w l : ℕ) → isRefusal n w ≡ true → FirstFails n (checksAt s i) → P (outcome 0 n w l)) → ((l : ℕ) → P (outcome 0 0 swNeedPause l))
     → (SaidNo s i → P (outcome 0 13 swErrorProcessingCommand 2))
     → ((w l : ℕ) → isDone w ≡ true → P (outcome 0 0 w l)) → P (settled s i .result)
-settled-cases P s i stopped no-way thirteenth yes-way =
-    by-call (λ (z : Settled). P (z .result)) s i stopped (λ _ _ _. settled-by s i P no-way (λ _ _. stopped 4 refl) thirteenth (λ _ _. yes-way))
+settled-cases P s i stopped no-way waits thirteenth yes-way =
+    by-call (λ (z : Settled). P (z .result)) s i stopped
+    (λ _ _ _. settled-by s i P no-way (λ t l _. waits l) (λ _ _. stopped 4 refl) thirteenth (λ _ _. yes-way))
 
 -- WHAT A REASON TELLS of the result
 numbered : (n : ℕ) → eqb n 0 ≡ false → Reasoned (outcome n 0 0 0)
@@ -136,24 +158,27 @@ numbered n e = record { none = rw e refl; word = λ z _. clash refl z; four = λ
 refused-by : (n w l : ℕ) → isRefusal n w ≡ true → Reasoned (outcome 0 n w l)
 refused-by n w l e =
     record {
-      none = ne-eqb n 0 (λ z. omega (arith, in-range n w e .0)) ∙ sym (not-done n w e);
+      none = rw (ne-eqb n 0 (λ z. omega (arith, in-range n w e .0)), not-done n w e, not-pause n w e) refl;
       word = λ _ z. by-word (λ y. y ≡ checkWord n) n w e refl (λ y. clash (eq-eqb n 4 y) z);
       four = λ z. by-word (λ y. (eqb y swNeedEncryption || eqb y swInvalidParams) ≡ true) n w e (rw z refl) (λ _. refl);
     }
 
 carried-out : (w l : ℕ) → isDone w ≡ true → Reasoned (outcome 0 0 w l)
-carried-out w l e = record { none = sym e; word = λ z _. clash refl z; four = λ z. absurd (omega arith) }
+carried-out w l e = record { none = rw e refl; word = λ z _. clash refl z; four = λ z. absurd (omega arith) }
+
+paused : (l : ℕ) → Reasoned (outcome 0 0 swNeedPause l)
+paused l = record { none = refl; word = λ z _. clash refl z; four = λ z. absurd (omega arith) }
 
 pub asked-reasoned : (f : AnyCard) → Demand2 f → (s : State) (i : Call) → Reasoned (f .taps .ask s i .result)
 asked-reasoned =
     every (λ f. (s : State) (i : Call) → Reasoned (f .taps .ask s i .result))
-    (λ s i. asked-cases Reasoned s i numbered (λ n w l e _. refused-by n w l e) (λ l. carried-out swProcessCompleted l refl))
+    (λ s i. asked-cases Reasoned s i numbered (λ n w l e _. refused-by n w l e) paused (λ l. carried-out swProcessCompleted l refl))
 
 pub settled-reasoned : (f : AnyCard) → Demand2 f → (s : State) (i : Call) → Reasoned (f .taps .settle s i .result)
 settled-reasoned =
     every (λ f. (s : State) (i : Call) → Reasoned (f .taps .settle s i .result))
     (λ s i.
-    settled-cases Reasoned s i numbered (λ n w l e _. refused-by n w l e)
+    settled-cases Reasoned s i numbered (λ n w l e _. refused-by n w l e) paused
     (λ _. record { none = refl; word = λ _ _. refl; four = λ z. absurd (omega arith) })
     carried-out)
 
@@ -166,6 +191,7 @@ asked-first =
     asked-cases (λ r. r .reason ≡ n → FirstFails n (checksAt s i)) s i
     (λ _ _ e. absurd (omega arith))
     (λ m w l _ x e. subst (λ j. FirstFails j (checksAt s i)) e x)
+    (λ l e. absurd (omega arith))
     (λ l e. absurd (omega arith)))
 
 pub settled-first :
@@ -176,24 +202,27 @@ settled-first =
     settled-cases (λ r. r .reason ≡ n → FirstFails n (checksAt s i)) s i
     (λ _ _ e. absurd (omega arith))
     (λ m w l _ x e. subst (λ j. FirstFails j (checksAt s i)) e x)
+    (λ l e. absurd (omega arith))
     (λ _ e. absurd (omega arith))
     (λ w l _ e. absurd (omega arith)))
 
--- and the first check to fail is the reason
+-- and the first check to fail is the reason, unless the request has to wait after check 10
 pub first-asked :
-    (f : AnyCard) → Demand2 f → (s : State) (i : Call) (n : ℕ) → askStop s i ≡ 0 → FirstFails n (checksAt s i) → f .taps .ask s i .result .reason ≡ n
-first-asked f d s i n e h =
+    (f : AnyCard) → Demand2 f → (s : State) (i : Call) (n : ℕ) → askStop s i ≡ 0 → FirstFails n (checksAt s i)
+    → (11 ≤ n → waitOf (decode (s .image)) (i .request) ≡ 0) → f .taps .ask s i .result .reason ≡ n
+first-asked f d s i n e h p =
     ap (λ y. y .result .reason) (d .asks s i ∙ looked-ask s i e)
-    ∙ asked-by s i (λ r. r .reason ≡ n) (λ m w l _ x. first-one x h) (λ g l. clash (g n) (h .fails))
+    ∙ asked-by s i (λ r. r .reason ≡ n) (λ m w l _ x. first-one x h) (λ t l x. absurd (goes-on s i n h p t x)) (λ g l. clash (g n) (h .fails))
 
 pub first-settled :
-    (f : AnyCard) → Demand2 f → (s : State) (i : Call) (n : ℕ) → settleStop s i ≡ 0 → FirstFails n (checksAt s i) → f .taps .settle s i .result .reason ≡ n
-first-settled f d s i n e h =
+    (f : AnyCard) → Demand2 f → (s : State) (i : Call) (n : ℕ) → settleStop s i ≡ 0 → FirstFails n (checksAt s i)
+    → (11 ≤ n → waitOf (decode (s .image)) (i .request) ≡ 0) → f .taps .settle s i .result .reason ≡ n
+first-settled f d s i n e h p =
     ap (λ y. y .result .reason) (d .settles s i ∙ looked s i e)
-    ∙ settled-by s i (λ r. r .reason ≡ n) (λ m w l _ x. first-one x h)
+    ∙ settled-by s i (λ r. r .reason ≡ n) (λ m w l _ x. first-one x h) (λ t l x. absurd (goes-on s i n h p t x))
     (λ g _. clash (g n) (h .fails)) (λ y. clash (y .others n) (h .fails)) (λ g _ w l _. clash (g n) (h .fails))
 
--- REASON 13: all twelve hold, the answers have their shape, and the issuer said no; and where that is so, the reason is 13
+-- REASON 13: all twelve hold, the answers have their shape, and the issuer said no; and where that is so, and the request need not wait, the reason is 13
 pub settled-thirteen : (f : AnyCard) → Demand2 f → (s : State) (i : Call) → f .taps .settle s i .result .reason ≡ 13 → SaidNo s i
 settled-thirteen =
     every (λ f. (s : State) (i : Call) → f .taps .settle s i .result .reason ≡ 13 → SaidNo s i)
@@ -201,33 +230,23 @@ settled-thirteen =
     settled-cases (λ r. r .reason ≡ 13 → SaidNo s i) s i
     (λ _ _ e. absurd (omega arith))
     (λ n w l h _ e. absurd (omega (arith, in-range n w h .1)))
+    (λ l e. absurd (omega arith))
     (λ x _. x)
     (λ w l _ e. absurd (omega arith)))
 
-pub thirteen-settled : (f : AnyCard) → Demand2 f → (s : State) (i : Call) → settleStop s i ≡ 0 → SaidNo s i → f .taps .settle s i .result .reason ≡ 13
-thirteen-settled f d s i e y =
+pub thirteen-settled :
+    (f : AnyCard) → Demand2 f → (s : State) (i : Call) → settleStop s i ≡ 0 → waitOf (decode (s .image)) (i .request) ≡ 0 → SaidNo s i
+    → f .taps .settle s i .result .reason ≡ 13
+thirteen-settled f d s i e p y =
     let no : row (command (i .request)) .confirmed (i .answers) ≡ false = ap (row (command (i .request)) .confirmed) (y .no) ∙ no-to (y .issuer) in
     ap (λ z. z .result .reason) (d .settles s i ∙ looked s i e)
-    ∙ settled-by s i (λ r. r .reason ≡ 13) (λ n w l _ x. clash (y .others n) (x .fails)) (λ _ n. clash (y .shape) n) (λ _. refl) (λ _ t w l _. clash t no)
+    ∙ settled-by s i (λ r. r .reason ≡ 13) (λ n w l _ x. clash (y .others n) (x .fails)) (λ t l x. absurd (omega (arith, x .some, x .isLeft, p)))
+    (λ _ n. clash (y .shape) n) (λ _. refl) (λ _ t w l _. clash t no)
 
 -- ASK AND SETTLE say the same reason, but where settle says 13 and ask 0
-module _ (f : AnyCard) (d : Demand2 f) (s : State) (i : Call) (page : List ℕ) (l : questionsRoom ≤ length page) (e : settleStop s i ≡ 0) where
-  abbrev asking : Call
-  asking = askCall (i .request) (i .draw) page
-
-  looks : askStop s asking ≡ 0
-  looks = both-look s i page l e
-
-  nothing-fails : AllHold (checksAt s i) → f .taps .ask s asking .result .reason ≡ 0
-  nothing-fails g =
-      ap (λ y. y .result .reason) (d .asks s asking ∙ looked-ask s asking looks)
-      ∙ asked-by s asking (λ r. r .reason ≡ 0) (λ n w k _ x. clash (g n) (x .fails)) (λ _ k. refl)
-
-  pub reasons-alike : Alike (f .taps .ask s asking .result .reason) (f .taps .settle s i .result .reason)
-  reasons-alike =
-      subst (λ (r : Settled). Alike (f .taps .ask s asking .result .reason) (r .result .reason)) (sym (d .settles s i ∙ looked s i e))
-      (settled-by s i (λ r. Alike (f .taps .ask s asking .result .reason) (r .reason))
-      (λ n w k _ x. alike (sym (first-asked f d s asking n looks x)))
-      (λ g _. alike (sym (nothing-fails g)))
-      (λ y. thirteen (nothing-fails (y .others)) refl)
-      (λ g _ w k _. alike (sym (nothing-fails g))))
+pub reasons-alike :
+    (f : AnyCard) → Demand2 f → (s : State) (i : Call) (page : List ℕ) → questionsRoom ≤ length page → settleStop s i ≡ 0
+    → Alike (f .taps .ask s (askCall (i .request) (i .draw) page) .result .reason) (f .taps .settle s i .result .reason)
+reasons-alike f d s i page l e =
+    let asking : Call = askCall (i .request) (i .draw) page in
+    rw (d .asks s asking ∙ looked-ask s asking (both-look s i page l e), d .settles s i ∙ looked s i e) (alike-at s i page)

@@ -8,25 +8,30 @@ use lib.ListN.{length, getD, replicate}
 use lib.Dec.{lit≤}
 use Rattle.wire.specs.Wire.{joined}
 use Rattle.fields.specs.Fields.{fld}
+use Rattle.card.specs.declared.Face.{Face}
 use Rattle.card.specs.declared.Card.{Card}
 use Rattle.card.specs.Layout.{pinSize, signatureSize, walletAt, keyAt, lastAt}
 use Rattle.card.specs.Image.{decode}
-use Rattle.manual.specs.Words.{swProcessCompleted, questionsRoom}
+use Rattle.manual.specs.Words.{swProcessCompleted, swNeedPause, questionsRoom}
 use Rattle.manual.specs.Tags.{NewPIN1, NewPIN2, Challenge}
 use Rattle.manual.specs.declared.Command.the-variants.{ReadCard, SetPin, Sign, VerifyCard}
 use Rattle.manual.specs.declared.Verdict.{Verdict}
 use Rattle.manual.specs.declared.Verdict.the-variants.{Pass, Stop}
+use Rattle.manual.specs.declared.Pace.{Pace}
+use Rattle.manual.specs.declared.Pace.the-variants.{Refused, Waits, Goes}
 use Rattle.manual.specs.Row.{Question, asked, eachAsked, shaped}
 use Rattle.manual.specs.Checking.{saltSize}
 use Rattle.manual.specs.Commands.{row}
-use Rattle.manual.specs.Settle.{State, holding, Call, Posed, sentIn, matched, said, saidBy, questionsOf, settled, settledOf, askedFor, askedOf}
+use Rattle.manual.specs.Settle.{State, holding, Call, Posed, sentIn, matched, said, saidBy, questionsOf, paceOf, paced, pacedQuestions}
+use Rattle.manual.specs.Settle.{settled, settledOf, askedFor, askedOf}
 use Rattle.manual.specs.Settle.{judgedBy as judgement}
-use Rattle.history.specs.Demands.{AnyCard, isRefusal, Asked, noneAsked, allAsked, Demand1, Demand2}
+use Rattle.history.specs.Demands.{AnyCard, isRefusal, Asked, noneAsked, allAsked, mustWait, Demand1, Demand2}
 use Rattle.history.specs.Demands.{tapsOf, left, Asks, nothing, due, allKinds, Poses, Demand3}
-use Rattle.history.specs.Wrong.{outside, judgedBy, asksBy, saysBy, honest}
+use Rattle.history.specs.Wrong.{asksAt, outside, judgedBy, pacedBy, asksBy, saysBy, honest}
 use Rattle.history.specs.Wrong.{refuser, yesSayer, forgetter, repeater, proud, oldCard, greedy, hasty, hoarder}
 use Rattle.history.specs.Wrong.{eager, riser, teller, forger, notary, babbler, stubborn, inventor, mute, firstTaker, heir, credulous, resetter}
 use Rattle.history.proofs.Choice.{both-true, clash}
+use Rattle.history.proofs.Taps.{paced-as}
 use Rattle.history.proofs.Images.{model}
 use Rattle.history.proofs.Story.{run, sheet0, image0, fresh0, sheet1, image1, fresh1, sheet2, image2, fresh2, codes1, request, call}
 use Rattle.history.proofs.Story.{ask0, reads, creates, hashes, signs, repeats, purges, verifies, notes, wakes}
@@ -40,12 +45,28 @@ same-says : (z : Verdict) (c : Card) (q d a : List ℕ) → saysBy row z c q d a
 same-says (Pass k) c q d a = refl
 same-says (Stop n w) c q d a = refl
 
+asks-paced : (p : Pace) (z : Verdict) (f : Face) (q d : List ℕ) → asksAt p (questionsOf z f q d) ≡ pacedQuestions p z f q d
+asks-paced (Refused b) z f q d = refl
+asks-paced (Waits t) z f q d = refl
+asks-paced Goes z f q d = refl
+
 pub honest-accepted : Demand2 (outside honest)
-unfolding askedFor askedOf settled settledOf said judgement
+unfolding askedFor askedOf settled settledOf paced paceOf said judgement
 honest-accepted =
     record {
-      asks = λ m i. rw (same-asks (judgedBy row (decode (m .image)) (i .request)) (decode (m .image)) (i .request) (i .draw)) refl;
-      settles = λ m i. rw (same-says (judgedBy row (decode (m .image)) (i .request)) (decode (m .image)) (i .request) (i .draw) (i .answers)) refl;
+      asks = λ m i.
+          let c = decode (m .image) in
+          let z = judgedBy row c (i .request) in
+          rw (same-asks z c (i .request) (i .draw), asks-paced (pacedBy row c (i .request)) z (c .face) (i .request) (i .draw)) refl;
+      settles = λ m i.
+          let c = decode (m .image) in
+          let x = matched (c .codes) (sentIn (i .request)) in
+          rw (
+            same-says (judgedBy row c (i .request)) c (i .request) (i .draw) (i .answers),
+            paced-as (pacedBy row c (i .request)) x (c .face) (i .request) (i .draw) (i .answers),
+          )
+          refl;
+      turnsOff = λ m nxt. refl;
     }
 
 -- demand 2, at a call on the state that calls of the manual's own left
@@ -178,15 +199,21 @@ notary-rejected h =
     (ask0 VerifyCard (fld Challenge (replicate saltSize 4) ∷ hashes 1 5) (replicate signatureSize 5)) .poses))
     refl
 
--- 15. ask says 1234: no word of the table, nor 9000
-asked-word : (i : Call) (x : Posed) → Asked i x → (x .result .word ≡ swProcessCompleted → ⊥) → isRefusal (x .result .reason) (x .result .word) ≡ true
-asked-word i x (noneAsked n w e z) f = rw z e
-asked-word i x (allAsked v l z) f = absurd (f (ap (λ y. y .result .word) z))
+-- 15. ask says 1234: no word of the table, nor 9000, nor 9789
+asked-word :
+    (i : Call) (x : Posed) → Asked i x → (x .result .word ≡ swProcessCompleted → ⊥) → (x .result .word ≡ swNeedPause → ⊥)
+    → isRefusal (x .result .reason) (x .result .word) ≡ true
+asked-word i x (noneAsked n w e z) f g = rw z e
+asked-word i x (allAsked v l z) f g = absurd (f (ap (λ y. y .result .word) z))
+asked-word i x (mustWait z) f g = absurd (g (ap (λ y. y .result .word) z))
 
 pub babbler-rejected : Demand1 babbler → ⊥
 unfolding run
 babbler-rejected h =
-    clash (asked-word reads _ (h .asks (holding image0) reads refl) (λ e. let z : _≡_ {A = ℕ} 0x1234 0x9000 = e in omega arith)) refl
+    clash
+    (asked-word reads _ (h .asks (holding image0) reads refl) (λ e. let z : _≡_ {A = ℕ} 0x1234 0x9000 = e in omega arith)
+    (λ e. let z : _≡_ {A = ℕ} 0x1234 0x9789 = e in omega arith))
+    refl
 
 -- 16. settle says number 4: READ_CARD asks nothing, and no answer answers that
 none-asked : (xs : List Question) → [] ≡ asked xs → shaped xs [] ≡ true
@@ -219,7 +246,10 @@ pub mute-rejected-1 : Demand1 mute → ⊥
 unfolding run
 mute-rejected-1 h =
     let i : Call = call (request codes1 ReadCard []) [] in
-    clash (asked-word i _ (h .asks (holding image0) i refl) (λ e. let z : _≡_ {A = ℕ} 0x6A86 0x9000 = e in omega arith)) refl
+    clash
+    (asked-word i _ (h .asks (holding image0) i refl) (λ e. let z : _≡_ {A = ℕ} 0x6A86 0x9000 = e in omega arith)
+    (λ e. let z : _≡_ {A = ℕ} 0x6A86 0x9789 = e in omega arith))
+    refl
 
 -- 19. takes the first of two fields with one tag: a SET_PIN with New_PIN2 twice is 6A86, and no code is another
 pub firstTaker-rejected : Demand2 firstTaker → ⊥

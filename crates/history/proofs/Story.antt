@@ -1,5 +1,5 @@
 -- A sheet, calls under it, and a story that they tell: what demand 3 speaks of, computed. Assumes nothing.
-use Prim.Native.Nat.{ℕ, _+_, _*_}
+use Prim.Native.Nat.{ℕ, _*_}
 use mathlib.Core.Path.{_≡_, refl}
 use mathlib.Core.List.{List, [], _∷_, _++_}
 use mathlib.Core.Bool.{true}
@@ -9,10 +9,10 @@ use Rattle.fields.specs.Fields.{Tagged, fld, written, each, tlv, headOf, wellFo
 use Rattle.card.specs.declared.Codes.{Codes}
 use Rattle.card.specs.declared.Card.{Card}
 use Rattle.card.specs.Layout.{pinSize, cidSize, cvcSize, seedSize, signatureSize, imageRoom}
-use Rattle.card.specs.Image.{encode, encCodes, encFixed, encFlags, encWallet, encKey, encCounters, encBlock, encIssuer, encLast, encFront, encHeld, encFace}
-use Rattle.card.specs.Image.{decode}
-use Rattle.card.specs.Valid.{isCard, okFace, okFront, okHeld, okFlags, okRanges, okState, okKey, keySize, okBlock, okIssuer, okLast}
-use Rattle.card.specs.Values.{defaultPIN1, fresh, keyOf, blockOf, lastOf}
+use Rattle.card.specs.Image.{encode, encCodes, encFixed, encFlags, encWallet, encKey, encCounters, encBlock, encIssuer, encWait, encPending, encLast}
+use Rattle.card.specs.Image.{encFront, encHeld, encFace, decode}
+use Rattle.card.specs.Valid.{isCard, okFace, okFront, okHeld, okFlags, okRanges, okState, okKey, keySize, okBlock, okIssuer, okPending, okLast}
+use Rattle.card.specs.Values.{defaultPIN1, fresh, keyOf, blockOf, requestOf, lastOf}
 use Rattle.manual.specs.Words.{questionsRoom, responseRoom, drawSize, hashSize}
 use Rattle.manual.specs.Tags.{CID, PIN1, PIN2, Challenge, ActivationSignature, ResetPIN1}
 use Rattle.manual.specs.Tags.{IssuerData, IssuerDataSignature, IssuerDataCounter, TransactionHash, TransactionHashSize}
@@ -22,24 +22,27 @@ use Rattle.manual.specs.Request.{code, lcOf, insOf}
 use Rattle.manual.specs.Row.{plain, allowed, shaped, asked, eachAsked}
 use Rattle.manual.specs.Wallet.{curveName, hashQuestions}
 use Rattle.manual.specs.Checking.{saltSize}
-use Rattle.manual.specs.Settle.{State, holding, Call, sentIn, judgedBy, said, done, answered, lent, settledOf, settled, Settled, roomy, askedOf, askedFor}
+use Rattle.manual.specs.Delay.{paceBy, isHeld}
+use Rattle.manual.specs.Settle.{State, holding, Call, sentIn, judgedBy, said, paceOf, paced, done, answered, lent, settledOf, settled, Settled, roomy}
+use Rattle.manual.specs.Settle.{askedOf, askedFor}
 use Rattle.story.specs.Sums.{Sheet, History, accepted, active, codes, made, total, wallets, status, everPurged}
 use Rattle.history.specs.Demands.{AnyCard, given, tapsOf, left, played, Fresh}
 use Rattle.history.proofs.Images.{model}
 
 -- a call as it runs: to unfold this is to unfold all that a call computes with
 unfoldable pub run : AnyCard → State → Call → Settled
-unfolding settled settledOf lent said judgedBy sentIn viewOf answered done roomy askedFor askedOf asked eachAsked accepted lcOf insOf plain allowed
-    shaped wellFormed holds has val twice restFrom runN stepAt fieldAt written each joined tlv headOf part put room fit placed alike allZero fresh keyOf
-    blockOf lastOf curveName hashQuestions encode encCodes encFront encHeld encFace encFixed encFlags encWallet encKey encCounters encBlock
-    encIssuer encLast decode isCard okFace okFront okHeld okFlags okRanges okState okKey keySize okBlock okIssuer okLast
+unfolding settled settledOf lent paced paceOf paceBy isHeld said judgedBy sentIn viewOf answered done roomy askedFor askedOf asked eachAsked accepted
+    lcOf insOf plain allowed shaped wellFormed holds has val twice restFrom runN stepAt fieldAt written each joined tlv headOf part put room fit placed
+    alike allZero fresh keyOf blockOf requestOf lastOf curveName hashQuestions encode encCodes encFront encHeld encFace encFixed encFlags encWallet
+    encKey encCounters encBlock encIssuer encWait encPending encLast decode isCard okFace okFront okHeld okFlags okRanges okState okKey keySize okBlock
+    okIssuer okPending okLast
 run f m i = f .taps .settle m i
 
 -- THE SHEET, of a card that is reusable or not, activated or not: no CVC, PIN1 may not change, five signatures, replay protection
 abbrev sheetOf : ℕ → ℕ → Sheet
 sheetOf reusable active =
     record {
-      fixed = record { cid = replicate cidSize 7; cvc = replicate cvcSize 48; curve = 1; max = 5; seed = replicate seedSize 2 };
+      fixed = record { cid = replicate cidSize 7; cvc = replicate cvcSize 48; curve = 1; max = 5; seed = replicate seedSize 2; pause = 0 };
       flags = record { reusable = reusable; usecvc = 0; setpin1 = 0; setpin2 = 1; nopurge = 0; replay = 1; active = active };
       codes = record { pin1 = replicate pinSize 1; pin2 = replicate pinSize 2 };
     }

@@ -1,6 +1,6 @@
 -- THE FIELD THAT STANDS TWICE, of any card that meets demand 2: what check 5 tells of a request; that a command reads no tag outside of its entry; and what
 -- an accepted request of a history has. Assumes nothing.
-use Prim.Native.Nat.{ℕ, _≤_}
+use Prim.Native.Nat.{ℕ, _+_, _-_, _≤_}
 use native.Mathlib.Omega.{arith}
 use mathlib.Core.Path.{_≡_, refl, sym, ap, _∙_, subst}
 use mathlib.Core.List.{List, [], _∷_, _++_}
@@ -13,6 +13,7 @@ use Rattle.fields.proofs.Often.{many}
 use Rattle.card.specs.declared.Codes.{Codes}
 use Rattle.card.specs.declared.Face.{Face}
 use Rattle.card.specs.declared.Card.{Card}
+use Rattle.card.specs.Values.{u8, defaultPIN1, defaultPIN2}
 use Rattle.card.specs.Image.{decode}
 use Rattle.card.specs.Valid.{isCard}
 use Rattle.manual.specs.Words.{swInvalidParams, swInvalidStatus, questionsRoom, drawSize}
@@ -20,19 +21,25 @@ use Rattle.manual.specs.Tags.{CID, PIN1, PIN2, CVC, NewPIN1, NewPIN2, ResetPIN1
 use Rattle.manual.specs.declared.Command.{Command}
 use Rattle.manual.specs.declared.Verdict.{Verdict}
 use Rattle.manual.specs.declared.Verdict.the-variants.{Pass, Stop}
+use Rattle.manual.specs.declared.Pace.{Pace}
+use Rattle.manual.specs.declared.Pace.the-variants.{Refused, Waits, Goes}
 use Rattle.manual.specs.Request.{lcOf, fits, insOf, listed, command, payload}
-use Rattle.manual.specs.Row.{Row, Rule, rule, gateOf, plain, single, allowed, asksCvc, rules}
+use Rattle.manual.specs.Row.{Matched, Question, asked, Row, Rule, rule, gateOf, plain, single, allowed, asksCvc, rules}
 use Rattle.manual.specs.Wallet.{createWallet, setPin, sign}
 use Rattle.manual.specs.Activation.{activateCard}
 use Rattle.manual.specs.Commands.{row}
-use Rattle.manual.specs.Settle.{State, Call, sentIn, matched, judgedBy, judged, done, answered, saidBy, said, saidTo, questionsOf}
-use Rattle.manual.specs.Settle.{askedOf, askedFor, settledOf, lent, settled, outcome, posedBy, untouched, roomy}
+use Rattle.manual.specs.Delay.{entered, counts, wrongCode, isHeld, wholeWait, paceFor, paceBy}
+use Rattle.manual.specs.Settle.{State, Call, sentIn, matched, judgedBy, judged, Said, done, answered, saidBy, said, questionsOf}
+use Rattle.manual.specs.Settle.{paceOf, paced, pacedTo, pacedReason, pacedWord, pacedQuestions}
+use Rattle.manual.specs.Settle.{Posed, askedOf, askedFor, settledOf, lent, settled, outcome, posed, posedBy, untouched, roomy}
 use Rattle.story.specs.Sums.{History, accepted}
 use Rattle.story.specs.Buffers.{response}
-use Rattle.history.specs.Demands.{AnyCard, Demand2, Event, tapped, leaves, adds, played}
-use Rattle.history.specs.Facts.{checksAt, checkHolds, isOf, OnceEach, AllOnce, sending, PassesFive, Beside}
+use Rattle.history.specs.Demands.{AnyCard, Demand2, Event, tapped, switchedOff, leaves, adds, played}
+use Rattle.history.specs.Facts.{SameField, checksAt, checkHolds, isOf, OnceEach, AllOnce, sending, PassesFive, Beside}
+use Rattle.history.specs.Waiting.{waitOf}
+use Rattle.history.specs.Wrong.{saysAt}
 use Rattle.history.proofs.Choice.{by-cases, both-true, clash}
-use Rattle.history.proofs.Taps.{carried}
+use Rattle.history.proofs.Taps.{paced-as, carried}
 use Rattle.history.proofs.Images.{model, by-call, response-is, stages, saidAt}
 use Rattle.history.proofs.Theorems.{every}
 use Rattle.history.proofs.Entries.{same-holds, Reads, reads}
@@ -79,6 +86,7 @@ once-model s i =
 play-model : (s : State) (h : History) (es : List Event) → AllOnce h → AllOnce (played model s h es)
 play-model s h [] o = o
 play-model s h (tapped i ∷ es) o = play-model (leaves model s (tapped i)) (adds model s (tapped i) ++ h) es (once-model s i, o)
+play-model s h (switchedOff nxt ∷ es) o = play-model (leaves model s (switchedOff nxt)) h es o
 
 pub accepted-once : (f : AnyCard) → Demand2 f → (s : State) (es : List Event) → AllOnce (played f s [] es)
 accepted-once = every (λ f. (s : State) (es : List Event) → AllOnce (played f s [] es)) (λ s es. play-model s [] es tt)
@@ -125,6 +133,23 @@ later pin1 cid awake status pin2 cvc fields conditions =
     rule 6 pin1 swInvalidParams ∷ rule 7 cid swInvalidParams ∷ rule 8 awake swInvalidStatus ∷ rule 9 status swInvalidStatus ∷ rule 10 pin2 swInvalidParams
     ∷ rule 10 cvc swInvalidParams ∷ rule 11 fields swInvalidParams ∷ rule 12 conditions swInvalidStatus ∷ []
 
+-- a code that is asked for and not right
+is-asked : (b c : Bool) → (not b || c) ≡ false → b ≡ true
+is-asked true c e = refl
+is-asked false c e = clash refl e
+
+-- check 10: over PIN2 where that is asked for and not right, else over the CVC
+same-ten :
+    (a b a′ b′ : Bool) {c c′ d d′ : Bool} → a ≡ a′ → (a′ ≡ true → (b ≡ b′) × (c ≡ c′)) → ((not a || b) ≡ true → d ≡ d′)
+    → cond (a && not b) c d ≡ cond (a′ && not b′) c′ d′
+same-ten true true true true e two three = three refl
+same-ten true true true false e two three = clash refl (two refl .0)
+same-ten true false true true e two three = clash refl (sym (two refl .0))
+same-ten true false true false e two three = two refl .1
+same-ten true b false b′ e two three = clash refl e
+same-ten false b true b′ e two three = clash refl (sym e)
+same-ten false b false b′ e two three = three refl
+
 module _ (r : Row) (x : Codes) (f : Face) where
   abbrev laterOf : View → List Rule
   laterOf v =
@@ -151,6 +176,39 @@ module _ (r : Row) (x : Codes) (f : Face) where
       λ j. later (pin1 j) (cid j) (r .needs .asleep || eqb (f .front .flags .active) 1) (allowed (r .needs) (f .front .wallet .status)) (pin2 j) (cvc j)
       (h .fields f j) (h .conditions x f j)
 
+  -- what counts as a wrong code of two fields that agree, and of the verdict on both
+  same-counts : (t : ℕ) (default : List ℕ) (v w : View) → SameField t v w → counts t default v ≡ counts t default w
+  same-counts t default v w h = λ j. h .0 j && not (same-holds t v w h default j)
+
+  same-wrong :
+      (v w : View) → Reads r v w → (k : Command)
+      → wrongCode r (matched x v) v (gateOf (laterOf v) (Pass k)) ≡ wrongCode r (matched x w) w (gateOf (laterOf v) (Pass k))
+  same-wrong v w h k =
+      let P : Verdict → Type 0 = λ z. wrongCode r (matched x v) v z ≡ wrongCode r (matched x w) w z in
+      let ten = same-ten (r .pin2 v) (holds PIN2 v (x .pin2)) (r .pin2 w) (holds PIN2 w (x .pin2)) (h .asksPin2)
+      (λ e. (same-holds PIN2 v w (h .pin2 e) (x .pin2), same-counts PIN2 defaultPIN2 v w (h .pin2 e))) in
+      by-cases P (holds PIN1 v (x .pin1))
+      (λ _.
+      by-cases P (not (r .needs .cid) || holds CID v (f .front .fixed .cid))
+      (λ _.
+      by-cases P (r .needs .asleep || eqb (f .front .flags .active) 1)
+      (λ _.
+      by-cases P (allowed (r .needs) (f .front .wallet .status))
+      (λ _.
+      by-cases P (not (r .pin2 v) || holds PIN2 v (x .pin2))
+      (λ two.
+      by-cases P (not (asksCvc r f) || holds CVC v (f .front .fixed .cvc))
+      (λ _.
+      by-cases P (r .fields f v)
+      (λ _. by-cases P (r .conditions (matched x v) f v) (λ _. refl) (λ _. refl))
+      (λ _. refl))
+      (λ n. ten (λ _. h .cvc (both-true (r .needs .cvc) (eqb (f .front .flags .usecvc) 1) (is-asked (asksCvc r f) _ n) .0) .0)))
+      (λ n. ten (λ y. clash y n)))
+      (λ _. refl))
+      (λ _. refl))
+      (λ _. refl))
+      (λ _. same-counts PIN1 defaultPIN1 v w (h .pin1))
+
   -- and what is then said
   same-done : (v w : View) (d a : List ℕ) → Reads r v w → answered r (matched x v) f v d a ≡ answered r (matched x w) f w d a
   unfolding answered done
@@ -175,6 +233,12 @@ module _ (s : State) (i : Call) (q : List ℕ) (b : Beside s i q) where
   abbrev w : View
   w = sentIn q
 
+  abbrev x : Matched
+  x = matched (decode (s .image) .codes) (sentIn (i .request))
+
+  abbrev y : Matched
+  y = matched (decode (s .image) .codes) (sentIn q)
+
   h : Reads (row k) v w
   h = reads k v w (b .fields)
 
@@ -184,27 +248,20 @@ module _ (s : State) (i : Call) (q : List ℕ) (b : Beside s i q) where
   abbrev z : Verdict
   z = gateOf left (Pass k)
 
-  first : judged (matched (c .codes) v) (c .face) (i .request) ≡ z
+  first : judged x (c .face) (i .request) ≡ z
   unfolding judgedBy
   first = judged-later (row k) (c .codes) (c .face) (i .request) (Pass k) (opened s i (b .first))
 
-  second : judged (matched (c .codes) w) (c .face) q ≡ z
+  second : judged y (c .face) q ≡ z
   unfolding judgedBy
   second =
       judged-later (row (command q)) (c .codes) (c .face) q (Pass (command q)) (opened s (sending q i) (b .second))
       ∙ ap (λ j. gateOf (laterOf (row j) (c .codes) (c .face) w) (Pass j)) (b .same)
       ∙ ap (λ j. gateOf j (Pass k)) (sym (same-rules (row k) (c .codes) (c .face) v w h))
 
-  asks-alike : questionsOf z (c .face) q (i .draw) ≡ questionsOf z (c .face) (i .request) (i .draw)
-  asks-alike =
-      refuses-or (λ y. questionsOf y (c .face) q (i .draw) ≡ questionsOf y (c .face) (i .request) (i .draw)) (Pass k) (λ n w. refl)
-      (sym (h .questions (c .face) (i .draw))) left
-
-  says-alike : saidTo c q (i .draw) (i .answers) ≡ saidAt s i
+  says-alike : said y (c .face) q (i .draw) (i .answers) ≡ said x (c .face) (i .request) (i .draw) (i .answers)
   unfolding said
   says-alike =
-      let x = matched (c .codes) v in
-      let y = matched (c .codes) w in
       ap (λ j. saidBy j y (c .face) q (i .draw) (i .answers)) second
       ∙ refuses-or (λ j. saidBy j y (c .face) q (i .draw) (i .answers) ≡ saidBy j x (c .face) (i .request) (i .draw) (i .answers)) (Pass k)
       (λ n w. refl) (sym (same-done (row k) (c .codes) (c .face) v w (i .draw) (i .answers) h)) left
@@ -213,27 +270,83 @@ module _ (s : State) (i : Call) (q : List ℕ) (b : Beside s i q) where
   recodes-alike : row (command q) .recode w (c .codes) ≡ row k .recode v (c .codes)
   recodes-alike = ap (λ j. row j .recode w (c .codes)) (b .same) ∙ sym (h .recode (c .codes))
 
-  ask-alike : askedFor s (sending q i) ≡ askedFor s i
-  unfolding askedFor askedOf
-  ask-alike =
-      stages (λ y. y) (λ y. y) (λ n. posedBy (outcome n 0 0 0) (i .buffers .page)) (λ n. refl)
-      (isCard (s .image)) (leb questionsRoom (length (i .buffers .page))) (eqb (length (i .draw)) drawSize)
-      (rw (second, asks-alike, first) refl)
+  -- two that are not held wait alike
+  pub wait-alike : isHeld (c .face) q ≡ isHeld (c .face) (i .request) → waitOf c q ≡ waitOf c (i .request)
+  wait-alike e =
+      let n : ℕ = c .face .pending .wait .left - 1 in
+      (λ j. cond (e j) n (wholeWait (row (b .same j)) (c .face) w))
+      ∙ (λ j. cond (isHeld (c .face) (i .request)) n (u8 (c .face .pending .wait .wrong + cond (sym (h .asksPin2) j) (c .face .front .fixed .pause) 0)))
 
-  settle-alike : settled s (sending q i) ≡ settled s i
-  unfolding settled settledOf
-  settle-alike =
-      stages (λ y. y) (λ y. y) (λ n. untouched n (i .buffers .out) (i .buffers .next)) (λ n. refl)
-      (isCard (s .image)) (roomy (length (i .buffers .out)) (length (i .buffers .next))) (eqb (length (i .draw)) drawSize)
-      (λ j. lent (says-alike j)
-      (record { face = says-alike j .face; codes = cond (says-alike j .executed) (recodes-alike j) (c .codes) })
-      (i .buffers .out) (i .buffers .next))
+  -- and so do their paces
+  module _ (e : waitOf c q ≡ waitOf c (i .request)) where
+    abbrev p : Pace
+    p = paceBy z (row k) x (c .face) v (i .request)
 
+    pace-first : paceOf x (c .face) (i .request) ≡ p
+    unfolding paceOf
+    pace-first = ap (λ g. paceBy g (row k) x (c .face) v (i .request)) first
+
+    pace-second : paceOf y (c .face) q ≡ p
+    unfolding paceOf paceBy
+    pace-second =
+        let u : wrongCode (row (command q)) y w z ≡ wrongCode (row k) x v z =
+        ap (λ j. wrongCode (row j) y w z) (b .same) ∙ sym (same-wrong (row k) (c .codes) (c .face) v w h k) in
+        ap (λ g. paceBy g (row (command q)) y (c .face) w q) second ∙ (λ j. cond (entered z) (paceFor (e j)) (Refused (u j)))
+
+    asks-alike : questionsOf z (c .face) q (i .draw) ≡ questionsOf z (c .face) (i .request) (i .draw)
+    asks-alike =
+        refuses-or (λ y. questionsOf y (c .face) q (i .draw) ≡ questionsOf y (c .face) (i .request) (i .draw)) (Pass k) (λ n w. refl)
+        (sym (h .questions (c .face) (i .draw))) left
+
+    asks-paced : (p : Pace) → pacedQuestions p z (c .face) q (i .draw) ≡ pacedQuestions p z (c .face) (i .request) (i .draw)
+    asks-paced (Refused b) = asks-alike
+    asks-paced (Waits t) = refl
+    asks-paced Goes = asks-alike
+
+    abbrev pose : Pace → Verdict → List Question → Posed
+    pose p g xs = posed (pacedReason p g) (pacedWord p g) (asked xs) (i .buffers .page)
+
+    ask-alike : askedFor s (sending q i) ≡ askedFor s i
+    unfolding askedFor askedOf
+    ask-alike =
+        stages (λ y. y) (λ y. y) (λ n. posedBy (outcome n 0 0 0) (i .buffers .page)) (λ n. refl)
+        (isCard (s .image)) (leb questionsRoom (length (i .buffers .page))) (eqb (length (i .draw)) drawSize)
+        ((λ j. pose (pace-second j) (second j) (pacedQuestions (pace-second j) (second j) (c .face) q (i .draw)))
+        ∙ ap (pose p z) (asks-paced p)
+        ∙ sym (λ j. pose (pace-first j) (first j) (pacedQuestions (pace-first j) (first j) (c .face) (i .request) (i .draw))))
+
+    -- what is then said and left, where they need not wait
+    module _ (o : waitOf c (i .request) ≡ 0) where
+      goes-on : (g : Said) → saysAt p (c .face) q g ≡ saysAt p (c .face) (i .request) g
+      unfolding paceBy
+      goes-on g = by-cases (λ p. saysAt p (c .face) q g ≡ saysAt p (c .face) (i .request) g) (entered z) (λ _. rw o refl) (λ _. refl)
+
+      paced-alike : pacedTo c q (i .draw) (i .answers) ≡ saidAt s i
+      unfolding paced
+      paced-alike =
+          paced-as (paceOf y (c .face) q) y (c .face) q (i .draw) (i .answers)
+          ∙ (λ j. saysAt (pace-second j) (c .face) q (says-alike j))
+          ∙ goes-on (said x (c .face) (i .request) (i .draw) (i .answers))
+          ∙ (λ j. saysAt (sym pace-first j) (c .face) (i .request) (said x (c .face) (i .request) (i .draw) (i .answers)))
+          ∙ sym (paced-as (paceOf x (c .face) (i .request)) x (c .face) (i .request) (i .draw) (i .answers))
+
+      settle-alike : settled s (sending q i) ≡ settled s i
+      unfolding settled settledOf
+      settle-alike =
+          stages (λ y. y) (λ y. y) (λ n. untouched n (i .buffers .out) (i .buffers .next)) (λ n. refl)
+          (isCard (s .image)) (roomy (length (i .buffers .out)) (length (i .buffers .next))) (eqb (length (i .draw)) drawSize)
+          (λ j. lent (paced-alike j)
+          (record { face = paced-alike j .face; codes = cond (paced-alike j .executed) (recodes-alike j) (c .codes) })
+          (i .buffers .out) (i .buffers .next))
+
+-- where they wait alike, ask says the same; and so does settle, where they need not wait: what is held is the request itself
 pub own-tags :
-    (f : AnyCard) → Demand2 f → (s : State) (i : Call) (q : List ℕ) → Beside s i q
-    → (f .taps .ask s (sending q i) ≡ f .taps .ask s i) × (f .taps .settle s (sending q i) ≡ f .taps .settle s i)
+    (f : AnyCard) → Demand2 f → (s : State) (i : Call) (q : List ℕ) → Beside s i q → waitOf (decode (s .image)) q ≡ waitOf (decode (s .image)) (i .request)
+    → (f .taps .ask s (sending q i) ≡ f .taps .ask s i)
+    × (waitOf (decode (s .image)) (i .request) ≡ 0 → f .taps .settle s (sending q i) ≡ f .taps .settle s i)
 own-tags =
     every
-    (λ f. (s : State) (i : Call) (q : List ℕ) → Beside s i q
-    → (f .taps .ask s (sending q i) ≡ f .taps .ask s i) × (f .taps .settle s (sending q i) ≡ f .taps .settle s i))
-    (λ s i q b. (ask-alike s i q b, settle-alike s i q b))
+    (λ f. (s : State) (i : Call) (q : List ℕ) → Beside s i q → waitOf (decode (s .image)) q ≡ waitOf (decode (s .image)) (i .request)
+    → (f .taps .ask s (sending q i) ≡ f .taps .ask s i)
+    × (waitOf (decode (s .image)) (i .request) ≡ 0 → f .taps .settle s (sending q i) ≡ f .taps .settle s i))
+    (λ s i q b e. (ask-alike s i q b e, settle-alike s i q b e))

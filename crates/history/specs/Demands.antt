@@ -1,4 +1,4 @@
--- DEMANDS 1 TO 3, of any card: two calls on bytes, and what they return and leave. Assumes nothing.
+-- DEMANDS 1 TO 3, of any card: calls on bytes, and what they return and leave. Assumes nothing.
 use Prim.Native.Nat.{ℕ, _+_, _-_, _*_, _≤_, _<_}
 use mathlib.Core.Path.{_≡_}
 use mathlib.Core.List.{List, [], _∷_, _++_}
@@ -8,12 +8,14 @@ use lib.Dec.{leb, eqb}
 use Rattle.wire.specs.Wire.{be1, be2, be4, Bytes}
 use Rattle.fields.specs.Fields.{View, has, holds, val, written, Tagged, fld, tlv}
 use Rattle.card.specs.declared.Flags.{Flags}
+use Rattle.card.specs.declared.Wait.{Wait}
+use Rattle.card.specs.declared.Pending.{Pending}
 use Rattle.card.specs.declared.Card.{Card}
-use Rattle.card.specs.Layout.{signatureSize, top32}
-use Rattle.card.specs.Values.{lastOf, fresh}
-use Rattle.card.specs.Image.{decode}
+use Rattle.card.specs.Layout.{signatureSize, mostWrong, mostLeft, top32, imageRoom}
+use Rattle.card.specs.Values.{heldFor, heldRequest, idle, noPending, lastOf, fresh}
+use Rattle.card.specs.Image.{encode, decode}
 use Rattle.card.specs.Valid.{isCard}
-use Rattle.manual.specs.Words.{swProcessCompleted, swErrorProcessingCommand, questionsRoom, responseRoom, drawSize}
+use Rattle.manual.specs.Words.{swProcessCompleted, swErrorProcessingCommand, swNeedPause, questionsRoom, responseRoom, drawSize}
 use Rattle.manual.specs.Words.{swWrongLength, swNeedEncryption, swInvalidStatus, swInvalidParams, swInsNotSupported, swClaNotSupported}
 use Rattle.manual.specs.Tags.{CID, PIN1, PIN2, CVC, Status, CurveID, Challenge, ActivationSignature, ResetPIN1, ActivationSeed}
 use Rattle.manual.specs.Tags.{TransactionHash, Signature, Remaining, SignedHashes}
@@ -24,19 +26,20 @@ use Rattle.manual.specs.Wallet.{curveName, isNew, count, hashQuestions}
 use Rattle.manual.specs.Wallet.{signFields as hashesSent}
 use Rattle.manual.specs.Checking.{salt}
 use Rattle.manual.specs.Activation.{activationFields}
-use Rattle.manual.specs.Settle.{State, holding, Call, askCall, sentIn, Posed, Settled, askedFor}
-use Rattle.manual.specs.Settle.{settled, settledBy, posed, posedBy, outcome, untouched, over, roomy}
+use Rattle.manual.specs.Settle.{State, holding, Call, askCall, sentIn, waiting, Posed, Settled, Off, askedFor, poweredOff}
+use Rattle.manual.specs.Settle.{settled, settledBy, posed, posedBy, outcome, untouched, offBy, over, roomy}
 use Rattle.story.specs.Sums.{Sheet, Tap, History, tap, toldIn, isDone, accepted, ins, did, signedNew}
 use Rattle.story.specs.Sums.{active, wallets, status, everPurged, made, total, codes, usesWallet}
-use Rattle.story.specs.Buffers.{questions, response, image}
+use Rattle.story.specs.Buffers.{questions, response, image, imageOff}
 
--- ANY CARD: what it can do, by kinds of calls; today a tap's ask and settle
+-- ANY CARD: what it can do, by kinds of calls: a tap's ask and settle, and a power-off, which is lent the buffer for the next image
 pub record Taps : Type 0 where
   pub ask : State → Call → Posed
   pub settle : State → Call → Settled
 
 pub record AnyCard : Type 0 where
   pub taps : Taps
+  pub powerOff : State → List ℕ → Off
 
 -- DEMAND 1: every call, whatever it is given, ends as the table of 01, "Two calls", says
 -- numbers 1 to 3 in their order, of the image, the buffers and the draw; 0 where none of them applies
@@ -49,6 +52,38 @@ askStop s i = stop (isCard (s .image)) (leb questionsRoom (length (i .buffers .p
 abbrev pub settleStop : State → Call → ℕ
 settleStop s i =
     stop (isCard (s .image)) (roomy (length (i .buffers .out)) (length (i .buffers .next))) (eqb (length (i .draw)) drawSize)
+
+-- a power-off has no draw
+abbrev pub offStop : State → List ℕ → ℕ
+offStop s nxt = stop (isCard (s .image)) (leb imageRoom (length nxt)) true
+
+-- THE WAIT (02 Ask 7). m′ is the image m but for it: in bytes, where m is a card in bytes
+pub record ButWait (p : Pending) (m m′ : List ℕ) : Type 0 where
+  pub card : decode m′ ≡ waiting p (decode m)
+  pub stays : isCard m ≡ true → isCard m′ ≡ true
+  pub bytes : isCard m ≡ true → Bytes m → m′ ≡ encode (waiting p (decode m))
+
+abbrev pub waitIn : List ℕ → Wait
+waitIn m = decode m .face .pending .wait
+
+-- nothing held, and so many wrong codes counted
+abbrev pub onlyCounted : ℕ → Pending
+onlyCounted n = idle (record { wrong = n; left = 0; size = 0 })
+
+-- the count after a refusal by check n: as it was, or one more, up to 60, where check 6 or 10 refuses; 0 after check 10
+abbrev pub countAfter : ℕ → ℕ → ℕ → Bool
+countAfter n old new =
+    cond (leb n 10)
+    (eqb new old || ((eqb n 6 || eqb n 10) && eqb new (cond (leb mostWrong old) old (old + 1))))
+    (eqb new 0)
+
+-- "Pause (1C, the seconds left in units of 10 ms) and 9789, without CID"
+abbrev pub pauseBytes : ℕ → List ℕ
+pauseBytes t = 0x1C ∷ 2 ∷ (be2 (t * 100) ++ be2 swNeedPause)
+
+-- a request q that is held for t seconds, the count as it was
+abbrev pub holdingFor : ℕ → List ℕ → Wait → Pending
+holdingFor t q w = heldRequest (heldFor t (length q) w) q
 
 -- the status word of each check
 abbrev pub checkWord : ℕ → ℕ
@@ -67,21 +102,32 @@ isRefusal n w = leb 1 n && (leb n 12 && (eqb w (checkWord n) || (eqb n 4 && eqb 
 abbrev pub settleRefusal : ℕ → ℕ → Bool
 settleRefusal n w = isRefusal n w || (eqb n 13 && eqb w (checkWord 13))
 
--- ask, then: one of checks 1 to 12 with its status word and zero questions; or reason 0, 9000 and questions that fit the buffer
+-- ask, then: one of checks 1 to 12 with its status word and zero questions; or reason 0, 9000 and questions that fit the buffer; or
+-- reason 0, 9789 and zero questions
 pub data Asked (i : Call) (x : Posed) : Type 0 where
   noneAsked : (n w : ℕ) → isRefusal n w ≡ true → x ≡ posed n w [] (i .buffers .page) → Asked i x
   allAsked : (v : List ℕ) → length v ≤ questionsRoom → x ≡ posed 0 swProcessCompleted v (i .buffers .page) → Asked i x
+  mustWait : x ≡ posed 0 swNeedPause [] (i .buffers .page) → Asked i x
 
--- settle, then: number 4 and nothing written; a refusal, a response of two bytes, with the old image; or fields that fit the buffer, with a card as the
--- next image. The reason is the check that refuses, and 0 where none does
+-- settle, then: number 4 and nothing written; a refusal, a response of two bytes, with the old image but for the wait, of which nothing is held; a pause
+-- of 1 to 120 seconds, with the old image but for the wait, which holds the request; or fields that fit the buffer, with a card as the next image, of which
+-- nothing is held or counted. The reason is the check that refuses, and 0 where none does
 pub data Ended (s : State) (i : Call) (x : Settled) : Type 0 where
   shapeless : x ≡ untouched 4 (i .buffers .out) (i .buffers .next) → Ended s i x
   refusal :
-      (n w : ℕ) → settleRefusal n w ≡ true → x ≡ settledBy (outcome 0 n w 2) (over (be2 w) (i .buffers .out)) (over (s .image) (i .buffers .next))
-      → Ended s i x
+      (n w wrong : ℕ) (m′ : List ℕ) → settleRefusal n w ≡ true → countAfter n (waitIn (s .image) .wrong) wrong ≡ true
+      → ButWait (onlyCounted wrong) (s .image) m′
+      → x ≡ settledBy (outcome 0 n w 2) (over (be2 w) (i .buffers .out)) (over m′ (i .buffers .next)) → Ended s i x
+  pausing :
+      (t : ℕ) (m′ : List ℕ) → 1 ≤ t → t ≤ mostLeft → ButWait (holdingFor t (i .request) (waitIn (s .image))) (s .image) m′
+      → x ≡ settledBy (outcome 0 0 swNeedPause 6) (over (pauseBytes t) (i .buffers .out)) (over m′ (i .buffers .next)) → Ended s i x
   carriedOut :
-      (w : ℕ) (fields m′ : List ℕ) → isDone w ≡ true → length fields + 2 ≤ responseRoom → isCard m′ ≡ true
+      (w : ℕ) (fields m′ : List ℕ) → isDone w ≡ true → length fields + 2 ≤ responseRoom → isCard m′ ≡ true → decode m′ .face .pending ≡ noPending
       → x ≡ settledBy (outcome 0 0 w (length fields + 2)) (over (fields ++ be2 w) (i .buffers .out)) (over m′ (i .buffers .next)) → Ended s i x
+
+-- a power-off leaves the old image but for the wait: nothing is held, and the count stays
+pub data TurnedOff (s : State) (nxt : List ℕ) (x : Off) : Type 0 where
+  off : (m′ : List ℕ) → ButWait (onlyCounted (waitIn (s .image) .wrong)) (s .image) m′ → x ≡ offBy 0 (over m′ nxt) → TurnedOff s nxt x
 
 -- ask said x and settle, with these answers, y: settle says the reason and the status word of ask's refusal; number 4 exactly where checks 1 to 12 pass and
 -- the answers do not answer ask's questions; and it refuses what passed by check 13 alone, with 6286
@@ -105,15 +151,19 @@ pub record Demand1 (f : AnyCard) : Type 0 where
   pub agrees :
       (s : State) (i : Call) (page : List ℕ) → questionsRoom ≤ length page → settleStop s i ≡ 0
       → Agree (i .answers) (f .taps .ask s (askCall (i .request) (i .draw) page)) (f .taps .settle s i)
+  pub offStops : (s : State) (nxt : List ℕ) → eqb (offStop s nxt) 0 ≡ false → f .powerOff s nxt ≡ offBy (offStop s nxt) nxt
+  pub turnsOff : (s : State) (nxt : List ℕ) → Bytes (s .image) → offStop s nxt ≡ 0 → TurnedOff s nxt (f .powerOff s nxt)
 
 -- DEMAND 2: it answers and changes the card exactly as the manual says
 pub record Demand2 (f : AnyCard) : Type 0 where
   pub asks : (s : State) (i : Call) → f .taps .ask s i ≡ askedFor s i
   pub settles : (s : State) (i : Call) → f .taps .settle s i ≡ settled s i
+  pub turnsOff : (s : State) (nxt : List ℕ) → f .powerOff s nxt ≡ poweredOff s nxt
 
--- WHAT HAPPENS to a card: a tap is settled
+-- WHAT HAPPENS to a card: a tap is settled, or it is powered off, with this buffer for the next image
 pub data Event : Type 0 where
   tapped : Call → Event
+  switchedOff : List ℕ → Event
 
 abbrev pub tapsOf : List Call → List Event
 tapsOf [] = []
@@ -129,9 +179,11 @@ imageBy f s i = image (s .image) (f .taps .settle s i)
 -- an event leaves a state, and adds no tap to the history or one
 abbrev pub leaves : AnyCard → State → Event → State
 leaves f s (tapped i) = holding (imageBy f s i)
+leaves f s (switchedOff nxt) = holding (imageOff (s .image) (f .powerOff s nxt))
 
 abbrev pub adds : AnyCard → State → Event → List Tap
 adds f s (tapped i) = tapBy f s i ∷ []
+adds f s (switchedOff nxt) = []
 
 -- PLAY: the state that events leave, and the history after them, before which h stood
 abbrev pub left : AnyCard → State → List Event → State

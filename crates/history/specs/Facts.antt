@@ -1,5 +1,5 @@
 -- What the further theorems speak of: a card unchanged, the first check to fail, a field that stands twice, what a SIGN costs, what a purge takes, the
--- SIGN that a repeat tells again, what an activation leaves, a note that is too old.
+-- SIGN that a repeat tells again, what an activation leaves, a note that is too old. What a request is told that is sent again and again says Waiting.antt.
 -- Assumes nothing.
 use Prim.Native.Nat.{ℕ, _+_, _*_, _≤_, _<_}
 use mathlib.Core.Path.{_≡_}
@@ -9,13 +9,14 @@ use mathlib.Core.Bool.{Bool, true, false, cond, not, _&&_, _||_}
 use lib.Dec.{leb, eqb}
 use Rattle.wire.specs.Wire.{Bytes}
 use Rattle.fields.specs.Fields.{View, restFrom, copies, has, val, wellFormed}
+use Rattle.card.specs.declared.Pending.{Pending}
 use Rattle.card.specs.declared.Face.{Face}
 use Rattle.card.specs.declared.Card.{Card}
 use Rattle.card.specs.Layout.{mostHashes}
 use Rattle.card.specs.Values.{afterPurge, noKey, noLast}
 use Rattle.card.specs.Image.{decode}
 use Rattle.card.specs.Valid.{isCard}
-use Rattle.manual.specs.Words.{swNeedEncryption, swInvalidParams}
+use Rattle.manual.specs.Words.{swNeedEncryption, swInvalidParams, swNeedPause}
 use Rattle.manual.specs.declared.Command.{Command}
 use Rattle.manual.specs.declared.Command.the-variants.{WriteIssuerData, ActivateCard}
 use Rattle.manual.specs.declared.Outcome.{Outcome}
@@ -28,20 +29,26 @@ use Rattle.manual.specs.Tags.{Signature}
 use Rattle.manual.specs.Settle.{State, holding, Call, sentIn, matched}
 use Rattle.story.specs.Sums.{Sheet, History, toldIn, isDone, accepted, ins, signedNew, wallets}
 use Rattle.story.specs.Buffers.{questions, response}
-use Rattle.history.specs.Demands.{AnyCard, settleStop, checkWord, isRefusal, Event, tapped, tapBy, imageBy, left, played, given, Rightful}
+use Rattle.history.specs.Demands.{AnyCard, settleStop, ButWait, checkWord, isRefusal, Event, tapped, tapBy, imageBy, left, played, given, Rightful}
 
 -- the image m′ after spells the card that m spelled, and is m itself where m is a card in bytes
 pub record Unchanged (m m′ : List ℕ) : Type 0 where
   pub card : decode m′ ≡ decode m
   pub bytes : isCard m ≡ true → Bytes m → m′ ≡ m
 
--- f refuses the call by checks 1 to 12: nothing is asked, nothing accepted, and the card stays; the check and its status word are told where settle says none
--- of 1 to 3
+-- it does so but for the wait (02 Ask 7)
+abbrev pub Stays : List ℕ → List ℕ → Type 0
+Stays m m′ = (p : Pending) × ButWait p m m′
+
+-- f refuses the call by checks 1 to 12, or has it wait: nothing is asked, nothing accepted, and the card stays but for the wait; the check and its status word are told where settle
+-- says none of 1 to 3 and the request need not wait
 pub record Refused (f : AnyCard) (s : State) (i : Call) : Type 0 where
   pub asks : questions (f .taps .ask s i) ≡ []
   pub answer : accepted (response (f .taps .settle s i)) ≡ false
-  pub word : settleStop s i ≡ 0 → isRefusal (f .taps .settle s i .result .reason) (f .taps .settle s i .result .word) ≡ true
-  pub stays : Unchanged (s .image) (imageBy f s i)
+  pub word :
+      settleStop s i ≡ 0 → eqb (f .taps .settle s i .result .word) swNeedPause ≡ false
+      → isRefusal (f .taps .settle s i .result .reason) (f .taps .settle s i .result .word) ≡ true
+  pub stays : Stays (s .image) (imageBy f s i)
 
 -- CHECKS 1 to 12 that a request is held to; those of a call, on the card that the image spells
 abbrev pub checksOf : Row → Matched → Face → List ℕ → List Rule
@@ -65,9 +72,9 @@ pub record FirstFails (n : ℕ) (rs : List Rule) : Type 0 where
 abbrev pub AllHold : List Rule → Type 0
 AllHold rs = (j : ℕ) → checkHolds j rs ≡ true
 
--- what a result's reason tells of it: 0 exactly where there is a number, or 9000 to 9003; else the status word, of which check 4 has two
+-- what a result's reason tells of it: 0 exactly where there is a number, or 9000 to 9003, or 9789; else the status word, of which check 4 has two
 pub record Reasoned (r : Outcome) : Type 0 where
-  pub none : eqb (r .reason) 0 ≡ (not (eqb (r .number) 0) || isDone (r .word))
+  pub none : eqb (r .reason) 0 ≡ (not (eqb (r .number) 0) || (isDone (r .word) || eqb (r .word) swNeedPause))
   pub word : eqb (r .reason) 0 ≡ false → eqb (r .reason) 4 ≡ false → r .word ≡ checkWord (r .reason)
   pub four : r .reason ≡ 4 → (eqb (r .word) swNeedEncryption || eqb (r .word) swInvalidParams) ≡ true
 
@@ -181,7 +188,8 @@ pub record Original (f : AnyCard) (sh : Sheet) (m : List ℕ) (past es : List Ev
       Rightful sh (historyOf f m (past ++ made .before)) (tapBy f (stateAfter f m (past ++ made .before)) (made .call)) (made .call)
       (questions (f .taps .ask (stateAfter f m (past ++ made .before)) (made .call)))
 
--- the card that an accepted activation leaves: activated, with the default PIN1 where it was to be reset, and nothing else anew (02 Ask 1)
+-- the card that an accepted activation leaves: activated, with the default PIN1 where it was to be reset, and nothing else anew (02 Ask 1) but
+-- the wait, which is cleared as after every command
 abbrev pub wokenCard : View → Card → Card
 wokenCard v c = record { face = activatedFace (c .face); codes = activatedCodes v (c .codes) }
 

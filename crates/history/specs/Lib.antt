@@ -1,3 +1,4 @@
 pub mod Demands
 pub mod Facts
+pub mod Waiting
 pub mod Wrong

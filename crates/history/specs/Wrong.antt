@@ -1,9 +1,9 @@
 -- WRONG CARDS, 01 "How much a promise has to say", and others that a tired or a clever engineer might write. proofs/Rejected.antt shows each rejected, by
 -- the demand named here alone. Assumes nothing.
 use Prim.Native.Nat.{ℕ, _+_, _-_}
-use mathlib.Core.List.{List, [], _∷_}
+use mathlib.Core.List.{List, [], _∷_, _++_}
 use mathlib.Core.Bool.{Bool, true, false, cond, _&&_}
-use lib.ListN.{length, replicate}
+use lib.ListN.{length, drop, replicate}
 use lib.Dec.{leb, eqb}
 use Rattle.wire.specs.Wire.{be2}
 use Rattle.fields.specs.Fields.{View, val, wellFormed, Tagged}
@@ -11,15 +11,17 @@ use Rattle.card.specs.declared.Codes.{Codes}
 use Rattle.card.specs.declared.Wallet.{Wallet}
 use Rattle.card.specs.declared.Face.{Face}
 use Rattle.card.specs.declared.Card.{Card}
-use Rattle.card.specs.Layout.{imageSize}
-use Rattle.card.specs.Image.{decode}
-use Rattle.card.specs.Valid.{every, okFront, okHeld, okLast, isCard}
-use Rattle.card.specs.Values.{u32, resetPIN1, risen, heldKey, heldLast, withWallet, withKey, withCounters, withLast}
+use Rattle.card.specs.Layout.{imageSize, imageRoom}
+use Rattle.card.specs.Image.{encode, decode}
+use Rattle.card.specs.Valid.{every, okFront, okHeld, okPending, okLast, isCard}
+use Rattle.card.specs.Values.{u32, resetPIN1, risen, noPending, heldKey, heldLast, withWallet, withKey, withCounters, withLast}
 use Rattle.manual.specs.Words.{swProcessCompleted, swInvalidStatus, questionsRoom, drawSize}
 use Rattle.manual.specs.declared.Command.{Command}
 use Rattle.manual.specs.declared.Command.the-variants.{ReadCard, SetPin, Sign, VerifyCard, PurgeWallet, WriteIssuerData, ActivateCard}
 use Rattle.manual.specs.declared.Verdict.{Verdict}
 use Rattle.manual.specs.declared.Verdict.the-variants.{Pass, Stop}
+use Rattle.manual.specs.declared.Pace.{Pace}
+use Rattle.manual.specs.declared.Pace.the-variants.{Refused, Waits, Goes}
 use Rattle.manual.specs.declared.Outcome.{Outcome}
 use Rattle.manual.specs.Request.{code, command, payload}
 use Rattle.manual.specs.Tags.{Challenge}
@@ -29,43 +31,58 @@ use Rattle.manual.specs.Checking.{verifyCard, salt}
 use Rattle.manual.specs.Storage.{writeIssuerData}
 use Rattle.manual.specs.Activation.{activateCard}
 use Rattle.manual.specs.Commands.{row}
-use Rattle.manual.specs.Settle.{State, Call, Posed, Settled, sentIn, matched, wordOf, reasonOf, Said}
+use Rattle.manual.specs.Delay.{paceBy, pendingAfter}
+use Rattle.manual.specs.Settle.{State, Call, Posed, Settled, sentIn, matched, Said, pausing, leaving, pacedReason, pacedWord, waiting, Off, offBy, poweredOff}
 use Rattle.manual.specs.Settle.{silent, refused, answered, untouched, outcome, posed, posedBy, settledBy, lent, roomy}
 use Rattle.story.specs.Sums.{ins}
 use Rattle.history.specs.Demands.{AnyCard}
 
--- THE INSIDE of a card: what it asks and says of a card that was read from its image, and which card it leaves
+-- THE INSIDE of a card: whether a request waits on a card that was read from its image; what is asked and said where it need not; and which card is left
 pub record Inside : Type 0 where
   pub verdict : Card → List ℕ → Verdict
+  pub pace : Card → List ℕ → Pace
   pub asks : Card → List ℕ → List ℕ → List Question
   pub says : Card → List ℕ → List ℕ → List ℕ → Said
   pub leaves : Card → List ℕ → Said → Card
 
+-- what is asked and said by the pace
+abbrev pub asksAt : Pace → List Question → List Question
+asksAt (Refused b) xs = xs
+asksAt (Waits t) xs = []
+asksAt Goes xs = xs
+
+abbrev pub saysAt : Pace → Face → List ℕ → Said → Said
+saysAt (Refused b) f q s = leaving (pendingAfter (Refused b) (f .pending) q) s
+saysAt (Waits t) f q s = pausing t f q
+saysAt Goes f q s = leaving (pendingAfter Goes (f .pending) q) s
+
 -- numbers 1 to 3, and the buffers, as 01 has them; an image is tested as is said
 abbrev pub asksOutside : (List ℕ → Bool) → Inside → State → Call → Posed
 asksOutside test x s i =
+    let p : Pace = x .pace (decode (s .image)) (i .request) in
+    let g : Verdict = x .verdict (decode (s .image)) (i .request) in
     cond (test (s .image))
     (cond (leb questionsRoom (length (i .buffers .page)))
     (cond (eqb (length (i .draw)) drawSize)
-    (posed (reasonOf (x .verdict (decode (s .image)) (i .request))) (wordOf (x .verdict (decode (s .image)) (i .request)))
-    (asked (x .asks (decode (s .image)) (i .request) (i .draw))) (i .buffers .page))
+    (posed (pacedReason p g) (pacedWord p g) (asked (asksAt p (x .asks (decode (s .image)) (i .request) (i .draw)))) (i .buffers .page))
     (posedBy (outcome 3 0 0 0) (i .buffers .page)))
     (posedBy (outcome 2 0 0 0) (i .buffers .page)))
     (posedBy (outcome 1 0 0 0) (i .buffers .page))
 
 abbrev pub settlesOutside : (List ℕ → Bool) → Inside → State → Call → Settled
 settlesOutside test x s i =
-    let z : Said = x .says (decode (s .image)) (i .request) (i .draw) (i .answers) in
+    let c : Card = decode (s .image) in
+    let z : Said = saysAt (x .pace c (i .request)) (c .face) (i .request) (x .says c (i .request) (i .draw) (i .answers)) in
     cond (test (s .image))
     (cond (roomy (length (i .buffers .out)) (length (i .buffers .next)))
     (cond (eqb (length (i .draw)) drawSize)
-    (lent z (x .leaves (decode (s .image)) (i .request) z) (i .buffers .out) (i .buffers .next))
+    (lent z (x .leaves c (i .request) z) (i .buffers .out) (i .buffers .next))
     (untouched 3 (i .buffers .out) (i .buffers .next)))
     (untouched 2 (i .buffers .out) (i .buffers .next)))
     (untouched 1 (i .buffers .out) (i .buffers .next))
 
 abbrev pub outsideBy : (List ℕ → Bool) → Inside → AnyCard
-outsideBy test x = record { taps = record { ask = asksOutside test x; settle = settlesOutside test x } }
+outsideBy test x = record { taps = record { ask = asksOutside test x; settle = settlesOutside test x }; powerOff = poweredOff }
 
 abbrev pub outside : Inside → AnyCard
 outside = outsideBy isCard
@@ -74,6 +91,9 @@ outside = outsideBy isCard
 abbrev pub judgedBy : (Command → Row) → Card → List ℕ → Verdict
 judgedBy r c q =
     gateOf (rules (r (command q)) (matched (c .codes) (sentIn q)) (c .face) (wellFormed (payload q)) (sentIn q) q) (passed q)
+
+abbrev pub pacedBy : (Command → Row) → Card → List ℕ → Pace
+pacedBy r c q = paceBy (judgedBy r c q) (r (command q)) (matched (c .codes) (sentIn q)) (c .face) (sentIn q) q
 
 abbrev pub asksBy : (Command → Row) → Verdict → Card → List ℕ → List ℕ → List Question
 asksBy r (Stop n w) c q d = []
@@ -90,6 +110,7 @@ abbrev pub byRows : (Command → Row) → Inside
 byRows r =
     record {
       verdict = judgedBy r;
+      pace = pacedBy r;
       asks = λ c q d. asksBy r (judgedBy r c q) c q d;
       says = λ c q d a. saysBy r (judgedBy r c q) c q d a;
       leaves = leavesBy r;
@@ -105,6 +126,7 @@ refuser =
     outside
     (record {
       verdict = λ c q. Stop 12 swInvalidStatus;
+      pace = λ c q. Goes;
       asks = λ c q d. [];
       says = λ c q d a. refused 12 swInvalidStatus (c .face);
       leaves = λ c q s. c;
@@ -115,11 +137,13 @@ abbrev pub yes : Face → Said
 yes f = record { number = 0; reason = 0; word = swProcessCompleted; response = be2 swProcessCompleted; face = f; executed = false }
 
 abbrev pub yesSayer : AnyCard
-yesSayer = outside (record { verdict = λ c q. passed q; asks = λ c q d. []; says = λ c q d a. yes (c .face); leaves = λ c q s. c })
+yesSayer =
+    outside
+    (record { verdict = λ c q. passed q; pace = λ c q. Goes; asks = λ c q d. []; says = λ c q d a. yes (c .face); leaves = λ c q s. c })
 
 -- 3. NEVER CHANGES THE IMAGE (demand 2)
 abbrev pub forgetter : AnyCard
-forgetter = outside (record { verdict = honest .verdict; asks = honest .asks; says = honest .says; leaves = λ c q s. c })
+forgetter = outside (record { verdict = honest .verdict; pace = honest .pace; asks = honest .asks; says = honest .says; leaves = λ c q s. c })
 
 -- the rows, but for one
 abbrev pub but : Command → Row → Command → Row
@@ -203,7 +227,7 @@ abbrev pub hastily : Card → List ℕ → Said → Card
 hastily c q s = record { face = s .face; codes = cond (eqb (code (command q)) (code SetPin)) (newCodes (sentIn q)) (c .codes) }
 
 abbrev pub hasty : AnyCard
-hasty = outside (record { verdict = honest .verdict; asks = honest .asks; says = honest .says; leaves = hastily })
+hasty = outside (record { verdict = honest .verdict; pace = honest .pace; asks = honest .asks; says = honest .says; leaves = hastily })
 
 -- 9. KEEPS THE PURGED KEY (demand 2)
 abbrev pub hoarder : AnyCard
@@ -215,7 +239,7 @@ eagerly c q d =
     cond (eqb (ins q) (code Sign) && isNew (sentIn q)) (sign .questions (c .face) (sentIn q) d) (honest .asks c q d)
 
 abbrev pub eager : AnyCard
-eager = outside (record { verdict = honest .verdict; asks = eagerly; says = honest .says; leaves = honest .leaves })
+eager = outside (record { verdict = honest .verdict; pace = honest .pace; asks = eagerly; says = honest .says; leaves = honest .leaves })
 
 -- 11. RISES FROM A PURGE (demand 3): VERIFY_CARD leaves it Loaded, with a key of its own making
 abbrev pub arisen : Face → Face
@@ -246,15 +270,15 @@ notary = outside (byRows (but VerifyCard (withQuestions (λ f v d. sign .questio
 
 -- 15. ASK SAYS 1234, whatever it is asked (demand 1)
 abbrev pub babbler : AnyCard
-babbler = outside (record { verdict = λ c q. Stop 12 0x1234; asks = λ c q d. []; says = honest .says; leaves = honest .leaves })
+babbler = outside (record { verdict = λ c q. Stop 12 0x1234; pace = λ c q. Goes; asks = λ c q d. []; says = honest .says; leaves = honest .leaves })
 
 -- 16. SETTLE SAYS NUMBER 4, whatever it is answered (demand 1)
 abbrev pub stubborn : AnyCard
-stubborn = outside (record { verdict = honest .verdict; asks = honest .asks; says = λ c q d a. silent 4 (c .face); leaves = honest .leaves })
+stubborn = outside (record { verdict = honest .verdict; pace = honest .pace; asks = honest .asks; says = λ c q d a. silent 4 (c .face); leaves = honest .leaves })
 
 -- 17. REFUSES WITH A WORD OF ITS OWN MAKING (demand 1): ask says 6A86 where settle says 6F00
 abbrev pub inventor : AnyCard
-inventor = outside (record { verdict = honest .verdict; asks = honest .asks; says = λ c q d a. refused 6 0x6F00 (c .face); leaves = λ c q s. c })
+inventor = outside (record { verdict = honest .verdict; pace = honest .pace; asks = honest .asks; says = λ c q d a. refused 6 0x6F00 (c .face); leaves = λ c q s. c })
 
 -- 18. KEEPS THE REASON TO ITSELF (demands 1 and 2), all else being right, as the card did until it told one
 abbrev pub hushed : Verdict → Verdict
@@ -269,6 +293,7 @@ mute =
     outside
     (record {
       verdict = λ c q. hushed (honest .verdict c q);
+      pace = honest .pace;
       asks = honest .asks;
       says = λ c q d a. quietly (honest .says c q d a);
       leaves = honest .leaves;
@@ -293,7 +318,7 @@ firstTaker = outside (byRows (λ k. withReads [] (row k)))
 abbrev pub wasCard : List ℕ → Bool
 wasCard img =
     let f : Face = decode img .face in
-    eqb (length img) imageSize && every (okFront (f .front) ∷ okHeld (f .held) ∷ okLast (f .last) ∷ [])
+    eqb (length img) imageSize && every (okFront (f .front) ∷ okHeld (f .held) ∷ okPending (f .pending) ∷ okLast (f .last) ∷ [])
 
 abbrev pub heir : AnyCard
 heir = outsideBy wasCard (byRows (but PurgeWallet (withNext (λ f v a. withLast (f .last) (purgedFace f)) purgeWallet)))
@@ -305,3 +330,52 @@ credulous = outside (byRows (but ActivateCard (withConfirmed (λ a. true) activa
 -- 22. RESETS PIN1 UNASKED (demand 3): with Reset_PIN1 0 too
 abbrev pub resetter : AnyCard
 resetter = outside (byRows (but ActivateCard (withRecode (λ v x. resetPIN1 x) activateCard)))
+
+-- a card that is right but for the pace
+abbrev pub byPace : (Pace → Pace) → AnyCard
+byPace change =
+    outside
+    (record {
+      verdict = honest .verdict;
+      pace = λ c q. change (honest .pace c q);
+      asks = honest .asks;
+      says = honest .says;
+      leaves = honest .leaves;
+    })
+
+-- 23. HAS NOBODY WAIT (demand 2), as the card did until the delay
+abbrev pub goesOn : Pace → Pace
+goesOn (Refused b) = Refused b
+goesOn (Waits t) = Goes
+goesOn Goes = Goes
+
+abbrev pub hurried : AnyCard
+hurried = byPace goesOn
+
+-- 24. LETS A WAIT OF T SECONDS END AT SENDING T (demand 2)
+abbrev pub sooner : Pace → Pace
+sooner (Refused b) = Refused b
+sooner (Waits t) = cond (leb t 1) Goes (Waits t)
+sooner Goes = Goes
+
+abbrev pub impatient : AnyCard
+impatient = byPace sooner
+
+-- 25. COUNTS NO WRONG CODE (demand 2)
+abbrev pub uncounted : Pace → Pace
+uncounted (Refused b) = Refused false
+uncounted (Waits t) = Waits t
+uncounted Goes = Goes
+
+abbrev pub trusting : AnyCard
+trusting = byPace uncounted
+
+-- 26. FORGETS THE WRONG CODES AT A POWER-OFF (demand 1)
+abbrev pub forgetsOff : State → List ℕ → Off
+forgetsOff s nxt =
+    cond (isCard (s .image))
+    (cond (leb imageRoom (length nxt)) (offBy 0 (encode (waiting noPending (decode (s .image))) ++ drop imageSize nxt)) (offBy 2 nxt))
+    (offBy 1 nxt)
+
+abbrev pub forgiving : AnyCard
+forgiving = record { taps = outside honest .taps; powerOff = forgetsOff }

@@ -6,10 +6,12 @@ use Rattle.wire.specs.OneOutcome.{OneOutcome, OneSeen, plain}
 use Rattle.wire.proofs.Unique.{one-equal}
 use Rattle.image.proofs.curve as curve
 use Rattle.image.proofs.max as max
+use Rattle.image.proofs.pause as pause
 use Rattle.image.proofs.flags as flags
 use Rattle.image.proofs.wallet as wallet
 use Rattle.image.proofs.counters as counters
 use Rattle.image.proofs.note_counter as note-counter
+use Rattle.image.proofs.wait as wait
 use Rattle.image.proofs.last_count as last-count
 use Rattle.image.proofs.is_card as is-card
 use Rattle.image.proofs.pin1 as pin1
@@ -22,6 +24,7 @@ use Rattle.image.proofs.user as user
 use Rattle.image.proofs.protected as protected
 use Rattle.image.proofs.note as note
 use Rattle.image.proofs.note_signature as note-signature
+use Rattle.image.proofs.held as held
 use Rattle.image.proofs.last as last
 
 pub curve-one : OneOutcome curve.ended (λ M. curve.clauses {M = M})
@@ -29,6 +32,9 @@ curve-one M 𝓤 H A m r κs a g z z′ ws ws′ = plain 𝓤 (λ p q. one-equal
 
 pub max-one : OneOutcome max.ended (λ M. max.clauses {M = M})
 max-one M 𝓤 H A m r κs a g z z′ ws ws′ = plain 𝓤 (λ p q. one-equal p q)
+
+pub pause-one : OneOutcome pause.ended (λ M. pause.clauses {M = M})
+pause-one M 𝓤 H A m r κs a g z z′ ws ws′ = plain 𝓤 (λ p q. one-equal p q)
 
 pub flags-one : OneOutcome flags.ended (λ M. flags.clauses {M = M})
 flags-one M 𝓤 H A m r κs a g z z′ ws ws′ = plain 𝓤 (λ p q. one-equal p q)
@@ -41,6 +47,9 @@ counters-one M 𝓤 H A m r κs a g z z′ ws ws′ = plain 𝓤 (λ p q. one-eq
 
 pub note-counter-one : OneOutcome note-counter.ended (λ M. note-counter.clauses {M = M})
 note-counter-one M 𝓤 H A m r κs a g z z′ ws ws′ = plain 𝓤 (λ p q. one-equal p q)
+
+pub wait-one : OneOutcome wait.ended (λ M. wait.clauses {M = M})
+wait-one M 𝓤 H A m r κs a g z z′ ws ws′ = plain 𝓤 (λ p q. one-equal p q)
 
 pub last-count-one : OneOutcome last-count.ended (λ M. last-count.clauses {M = M})
 last-count-one M 𝓤 H A m r κs a g z z′ ws ws′ = plain 𝓤 (λ p q. one-equal p q)
@@ -77,6 +86,9 @@ note-one M 𝓤 H A m r κs a g z z′ ws ws′ = plain 𝓤 (λ p q. one-equal 
 
 pub note-signature-one : OneSeen note-signature.ended (λ M. note-signature.clauses {M = M}) (List ℕ) (λ κs z. now z)
 note-signature-one M 𝓤 H A m r κs a g z z′ ws ws′ = plain 𝓤 (λ p q. one-equal p q)
+
+pub held-one : OneSeen held.ended (λ M. held.clauses {M = M}) (List ℕ) (λ κs z. now z)
+held-one M 𝓤 H A m r κs a g z z′ ws ws′ = plain 𝓤 (λ p q. one-equal p q)
 
 pub last-one : OneSeen last.ended (λ M. last.clauses {M = M}) (List ℕ) (λ κs z. now z)
 last-one M 𝓤 H A m r κs a g z z′ ws ws′ = plain 𝓤 (λ p q. one-equal p q)

@@ -9,12 +9,14 @@ use card::Fixed;
 use card::Flags;
 use card::Key;
 use card::Last;
+use card::Pending;
+use card::Wait;
 use card::Wallet;
 use card::layout;
 use wire::Check;
 ghost use mathlib.Core.Path.{_≡_};
 ghost use Rattle.wire.specs.Wire.{verdict};
-ghost use Rattle.card.specs.Values.{keyOf, blockOf, lastOf};
+ghost use Rattle.card.specs.Values.{keyOf, blockOf, requestOf, lastOf};
 ghost use Rattle.card.specs.Image.{decBlock, decode};
 ghost use Rattle.card.specs.Valid.{isCard};
 
@@ -58,6 +60,13 @@ pub fn seed(img: &[u8]) -> &[u8]
     ensures { λ r. ⌜ now r ≡ decode (now (img .entry)) .face .front .fixed .seed ⌝ }
 {
     wire::part(img, layout::FIXED_AT + 16, Fixed::SEED_SIZE)
+}
+
+// The pause before a command that needs PIN2, in seconds.
+pub fn pause(img: &[u8]) -> u8
+    ensures { λ r. ⌜ r ≡ decode (now (img .entry)) .face .front .fixed .pause ⌝ }
+{
+    wire::get8(img, layout::PAUSE_AT as u32)
 }
 
 pub fn flags(img: &[u8]) -> Flags
@@ -149,6 +158,29 @@ pub fn note_counter(img: &[u8]) -> u32
     wire::get32(
         img,
         (layout::ISSUER_AT + layout::BLOCK_WIDTH + Last::SIGNATURE_SIZE) as u16,
+    )
+}
+
+pub fn wait(img: &[u8]) -> Wait
+    ensures { λ r. ⌜ r ≡ decode (now (img .entry)) .face .pending .wait ⌝ }
+{
+    let at = layout::PENDING_AT as u16;
+    Wait {
+        wrong: wire::get8(img, at as u32),
+        left: wire::get8(img, at as u32 + 1),
+        size: wire::get16(img, at + 2),
+    }
+}
+
+// The request that is held; nothing where none is.
+pub fn held(img: &[u8]) -> &[u8]
+    ensures { λ r. ⌜ now r ≡ requestOf (decode (now (img .entry)) .face .pending) ⌝ }
+{
+    let room = wire::part(img, layout::PENDING_AT + 4, Pending::ROOM);
+    wire::part(
+        room,
+        0,
+        wire::get16(img, layout::PENDING_AT as u16 + 2) as usize,
     )
 }
 

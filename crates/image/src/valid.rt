@@ -5,14 +5,17 @@ use card::Fixed;
 use card::Flags;
 use card::Key;
 use card::Last;
+use card::Pending;
+use card::Wait;
 use card::Wallet;
 use card::layout;
 ghost use mathlib.Core.Path.{_≡_};
-ghost use mathlib.Core.Bool.{cond};
+ghost use mathlib.Core.Bool.{cond, _&&_, _||_};
 ghost use lib.Dec.{eqb};
 ghost use Rattle.card.specs.declared.Fixed.{Fixed};
-ghost use Rattle.card.specs.Image.{decode, decWallet, decKey, decBlock, decIssuer, decLast, decHeld, decFront};
-ghost use Rattle.card.specs.Valid.{keySize, okFlags, okRanges, okState, okKey, okBlock, okIssuer, okLast, lastOwned, okFront, okHeld, okFace};
+ghost use Rattle.card.specs.Layout.{userAt, protectedAt};
+ghost use Rattle.card.specs.Image.{decode, decWallet, decKey, decBlock, decIssuer, decPending, decLast, decHeld, decFront};
+ghost use Rattle.card.specs.Valid.{keySize, okFlags, okRanges, okState, okKey, okBlock, okIssuer, okPending, okLast, isIdle, isHolding, lastOwned, okFront, okHeld, okFace};
 
 // Every flag is 0 or 1.
 fn flags_ok(x: Flags) -> bool
@@ -117,16 +120,44 @@ fn issuer_ok(img: &[u8]) -> bool
     wire::both(block_ok(img, at), wire::zero_from(signature, 0))
 }
 
-// 0 to 10 last signatures; unused room is zero.
+// A request of 6 to 1,024 bytes is held with 1 to 120 seconds left, or none with 0.
+fn wait_ok(w: Wait) -> bool
+    ensures { λ r. ⌜ r ≡ (isIdle w || isHolding w) ⌝ }
+{
+    let size = w.size as usize;
+    let sized = wire::both(Pending::LEAST <= size, size <= Pending::ROOM);
+    let timed = wire::both(1 <= w.left, wire::both(w.left <= Wait::MOST_LEFT, sized));
+    wire::either(wire::both(w.left == 0, w.size == 0), timed)
+}
+
+// 0 to 60 wrong codes; unused room is zero. A room that is all unused has a call of its own: of that one the compiler knows where it
+// begins and ends, and takes it without a loop.
+fn pending_ok(img: &[u8]) -> bool
+    ensures { λ r. ⌜ r ≡ okPending (decPending (now (img .entry))) ⌝ }
+{
+    let w = crate::wait(img);
+    let request = wire::part(img, layout::PENDING_AT + 4, Pending::ROOM);
+    let clear = if w.size == 0 {
+        wire::zero_from(request, 0)
+    } else {
+        wire::zero_from(request, w.size as usize)
+    };
+    wire::both(w.wrong <= Wait::MOST_WRONG, wire::both(wait_ok(w), clear))
+}
+
+// 0 to 10 last signatures; unused room is zero, and is looked at as that of a request is.
 fn last_ok(img: &[u8]) -> bool
     ensures { λ r. ⌜ r ≡ okLast (decLast (now (img .entry))) ⌝ }
 {
     let count = wire::get8(img, layout::LAST_AT as u32) as usize;
     let signatures = wire::part(img, layout::LAST_AT + 1, Last::ROOM);
-    wire::both(
-        count <= Last::MOST_HASHES,
-        wire::zero_from(signatures, count * Last::SIGNATURE_SIZE),
-    )
+    let used = count * Last::SIGNATURE_SIZE;
+    let clear = if used == 0 {
+        wire::zero_from(signatures, 0)
+    } else {
+        wire::zero_from(signatures, used)
+    };
+    wire::both(count <= Last::MOST_HASHES, clear)
 }
 
 // Signatures only with a wallet.
@@ -146,18 +177,33 @@ fn front_ok(img: &[u8]) -> bool
     let flags = crate::flags(img);
     let wallet = crate::wallet(img);
     let curve = crate::curve(img);
-    let key = key_ok(curve, wallet.status, img);
+    let pause = crate::pause(img) <= Fixed::MOST_PAUSE;
+    let key = wire::both(key_ok(curve, wallet.status, img), pause);
     let state = wire::both(state_ok(flags, wallet), key);
     let ranges = ranges_ok(curve, crate::max(img), wallet);
     wire::both(flags_ok(flags), wire::both(ranges, state))
 }
 
+// User_Data and User_ProtectedData, each a block. Where neither is held, both rooms are tested without a loop, as that of a request.
+fn data_ok(img: &[u8]) -> bool
+    ensures { λ r. ⌜ r ≡ (okBlock (decBlock userAt (now (img .entry))) && okBlock (decBlock protectedAt (now (img .entry)))) ⌝ }
+{
+    let user = layout::USER_AT as u16;
+    let protected = layout::PROTECTED_AT as u16;
+    if wire::get16(img, user) == 0 {
+        if wire::get16(img, protected) == 0 {
+            let first = wire::part(img, layout::USER_AT + 2, Block::ROOM);
+            let second = wire::part(img, layout::PROTECTED_AT + 2, Block::ROOM);
+            return wire::both(wire::zero_from(first, 0), wire::zero_from(second, 0));
+        }
+    }
+    wire::both(block_ok(img, user), block_ok(img, protected))
+}
+
 fn held_ok(img: &[u8]) -> bool
     ensures { λ r. ⌜ r ≡ okHeld (decHeld (now (img .entry))) ⌝ }
 {
-    let protected = block_ok(img, layout::PROTECTED_AT as u16);
-    let kept = wire::both(protected, issuer_ok(img));
-    wire::both(block_ok(img, layout::USER_AT as u16), kept)
+    wire::both(data_ok(img), issuer_ok(img))
 }
 
 // Group by group, each behind the one before: of a group that is fine nothing is kept until the last has been looked at.
@@ -166,8 +212,8 @@ pub fn face_ok(img: &[u8]) -> bool
 {
     if front_ok(img) {
         if held_ok(img) {
-            if last_ok(img) {
-                return last_owned(img);
+            if pending_ok(img) {
+                return wire::both(last_ok(img), last_owned(img));
             }
         }
     }

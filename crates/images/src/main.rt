@@ -1,5 +1,5 @@
 // Which values each byte of an image may take. tests/images.py made the images, and what must be printed, from 01 "What the card
-// is made of". A line of standard input is an image in hex, 65,536 bytes in all at most. At each place all 256 values are tried,
+// is made of". A line of standard input is an image in hex, 131,072 bytes in all at most. At each place all 256 values are tried,
 // all else as given. Each function here is proved safe and ending; the promises are those of `image`.
 use card::layout;
 use libc::STDIN_FILENO;
@@ -204,7 +204,7 @@ fn run_lines(input: &[u8]) {
 }
 
 fn main() {
-    let mut input = io::large_buffer();
+    let mut input = [0u8; 131072];
     let n = io::read_full(STDIN_FILENO, &mut input);
     run_lines(&input[..n]);
 }

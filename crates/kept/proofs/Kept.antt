@@ -202,7 +202,7 @@ purged-key-ok curve reusable = no-key-ok curve (afterPurge reusable) (go (eqb re
     go false = refl
 
 -- AN EMPTY OR PURGED CARD HOLDS NO SIGNATURES, and their room is zero
-zeros : (l : List ℕ) → allZero l ≡ true → l ≡ replicate (length l) 0
+pub zeros : (l : List ℕ) → allZero l ≡ true → l ≡ replicate (length l) 0
 unfolding allZero
 zeros [] e = refl
 zeros (x ∷ l) e = let y = both-true (eqb x 0) (allZero l) e in ap₂ _∷_ (eqb-true x 0 (y .0)) (zeros l (y .1))

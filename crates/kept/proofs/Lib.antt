@@ -1,4 +1,5 @@
 pub mod Tests
 pub mod Kept
 pub mod Next
+pub mod Waits
 pub mod Fresh

@@ -29,9 +29,11 @@ module _ (f : Face) (ok : okFace f ≡ true) where
         ranges = ranges;
         state = state;
         key = key;
+        pause = v .pause;
         user = v .user;
         protected = v .protected;
         issuer = v .issuer;
+        pending = v .pending;
         last = last;
         owned = owned;
       })
@@ -59,9 +61,11 @@ module _ (f : Face) (ok : okFace f ≡ true) where
         ranges = v .ranges;
         state = state;
         key = v .key;
+        pause = v .pause;
         user = v .user;
         protected = v .protected;
         issuer = v .issuer;
+        pending = v .pending;
         last = v .last;
         owned = v .owned;
       })
@@ -80,9 +84,11 @@ module _ (f : Face) (ok : okFace f ≡ true) where
         ranges = v .ranges;
         state = v .state;
         key = v .key;
+        pause = v .pause;
         user = user;
         protected = protected;
         issuer = issuer;
+        pending = v .pending;
         last = v .last;
         owned = v .owned;
       })

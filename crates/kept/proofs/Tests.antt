@@ -2,14 +2,19 @@
 use mathlib.Core.Path.{_≡_, refl}
 use mathlib.Core.Bool.{Bool, true, false, cond, _&&_, _||_}
 use mathlib.Core.List.{List, [], _∷_}
+use lib.ListN.{drop}
 use lib.Dec.{leb, eqb}
+use Rattle.wire.specs.Wire.{allZero}
 use Rattle.wire.proofs.Laws.{both-true}
 use Rattle.card.specs.declared.Fixed.{Fixed}
 use Rattle.card.specs.declared.Flags.{Flags}
 use Rattle.card.specs.declared.Wallet.{Wallet}
+use Rattle.card.specs.declared.Pending.{Pending}
 use Rattle.card.specs.declared.Face.{Face}
-use Rattle.card.specs.Valid.{every, isEmpty, isLoaded, flagTests, curveKnown, statusKnown, rangeTests, stateTests, frontTests, heldTests, faceTests}
-use Rattle.card.specs.Valid.{okFlags, okRanges, okState, okKey, okBlock, okIssuer, okLast, lastOwned, okFront, okHeld, okFace}
+use Rattle.card.specs.Layout.{mostWrong}
+use Rattle.card.specs.Valid.{every, isEmpty, isLoaded, flagTests, curveKnown, statusKnown, rangeTests, stateTests, isHolding, isIdle, pendingTests, pauseKnown}
+use Rattle.card.specs.Valid.{frontTests, heldTests, faceTests}
+use Rattle.card.specs.Valid.{okFlags, okRanges, okState, okKey, okBlock, okIssuer, okPending, okLast, lastOwned, okFront, okHeld, okFace}
 
 -- what `every` says, as a product that computes, and back
 abbrev pub Every : List Bool → Type 0
@@ -86,15 +91,33 @@ pub is-stated : (g : Flags) (w : Wallet) → Stated g w → okState g w ≡ true
 unfolding okState
 is-stated g w v = join (stateTests g w) (v .begun, (v .once, (v .purges, v .asleep)))
 
+-- THE WAIT
+pub record Waited (p : Pending) : Type 0 where
+  pub wrong : leb (p .wait .wrong) mostWrong ≡ true
+  pub held : (isIdle (p .wait) || isHolding (p .wait)) ≡ true
+  pub room : allZero (drop (p .wait .size) (p .request)) ≡ true
+
+pub waited : (p : Pending) → okPending p ≡ true → Waited p
+unfolding okPending
+waited p e =
+    let s = split (pendingTests p) e in
+    record { wrong = s .0; held = s .1 .0; room = s .1 .1 }
+
+pub is-waited : (p : Pending) → Waited p → okPending p ≡ true
+unfolding okPending
+is-waited p v = join (pendingTests p) (v .wrong, (v .held, v .room))
+
 -- THE FACE
 pub record Valid (f : Face) : Type 0 where
   pub flags : okFlags (f .front .flags) ≡ true
   pub ranges : okRanges (f .front .fixed) (f .front .wallet) ≡ true
   pub state : okState (f .front .flags) (f .front .wallet) ≡ true
   pub key : okKey (f .front .fixed .curve) (f .front .wallet .status) (f .front .key) ≡ true
+  pub pause : pauseKnown (f .front .fixed) ≡ true
   pub user : okBlock (f .held .user) ≡ true
   pub protected : okBlock (f .held .protected) ≡ true
   pub issuer : okIssuer (f .held .issuer) ≡ true
+  pub pending : okPending (f .pending) ≡ true
   pub last : okLast (f .last) ≡ true
   pub owned : lastOwned (f .front .wallet) (f .last) ≡ true
 
@@ -108,17 +131,19 @@ valid f e =
       flags = x .0;
       ranges = x .1 .0;
       state = x .1 .1 .0;
-      key = x .1 .1 .1;
+      key = x .1 .1 .1 .0;
+      pause = x .1 .1 .1 .1;
       user = y .0;
       protected = y .1 .0;
       issuer = y .1 .1;
-      last = s .1 .1 .0;
-      owned = s .1 .1 .1;
+      pending = s .1 .1 .0;
+      last = s .1 .1 .1 .0;
+      owned = s .1 .1 .1 .1;
     }
 
 pub is-valid : (f : Face) → Valid f → okFace f ≡ true
 unfolding okFace okFront okHeld
 is-valid f v =
-    let x = join (frontTests (f .front)) (v .flags, (v .ranges, (v .state, v .key))) in
+    let x = join (frontTests (f .front)) (v .flags, (v .ranges, (v .state, (v .key, v .pause)))) in
     let y = join (heldTests (f .held)) (v .user, (v .protected, v .issuer)) in
-    join (faceTests f) (x, (y, (v .last, v .owned)))
+    join (faceTests f) (x, (y, (v .pending, (v .last, v .owned))))

@@ -13,10 +13,10 @@ use Rattle.card.specs.declared.Codes.{Codes}
 use Rattle.card.specs.declared.Face.{Face}
 use Rattle.card.specs.declared.Card.{Card}
 use Rattle.card.specs.Layout.{pinSize, cidSize, cvcSize, seedSize, signatureSize, imageSize, imageRoom}
-use Rattle.card.specs.Values.{heldKey, noBlock, noLast, blockOf}
+use Rattle.card.specs.Values.{heldKey, noBlock, noPending, noLast, blockOf, requestOf}
 use Rattle.card.specs.Image.{encode, encCodes, encFront, encHeld, encFace, encFixed, encFlags}
-use Rattle.card.specs.Image.{encWallet, encKey, encCounters, encBlock, encIssuer, encLast, decode}
-use Rattle.card.specs.Valid.{isCard, okFace, okFront, okHeld, okFlags, okRanges, okState, okKey, keySize, okBlock, okIssuer, okLast}
+use Rattle.card.specs.Image.{encWallet, encKey, encCounters, encBlock, encIssuer, encWait, encPending, encLast, decode}
+use Rattle.card.specs.Valid.{isCard, okFace, okFront, okHeld, okFlags, okRanges, okState, okKey, keySize, okBlock, okIssuer, okPending, okLast}
 use Rattle.manual.specs.Words.{responseRoom}
 use Rattle.manual.specs.Tags.{CID, PIN1, PIN2, IssuerData, IssuerDataSignature, IssuerDataCounter, TransactionHash, TransactionHashSize}
 use Rattle.manual.specs.Row.{Matched}
@@ -24,7 +24,8 @@ use Rattle.manual.specs.declared.Verdict.the-variants.{Stop}
 use Rattle.manual.specs.Request.{lcOf, insOf}
 use Rattle.manual.specs.Row.{plain, allowed, shaped}
 use Rattle.manual.specs.Wallet.{hashQuestions}
-use Rattle.manual.specs.Settle.{judged, judgedBy, sentIn, done, answered, said, holding, settleCall, Settled, lent, roomy, settledOf, settled}
+use Rattle.manual.specs.Delay.{isHeld, paceBy}
+use Rattle.manual.specs.Settle.{judged, judgedBy, sentIn, done, answered, said, paceOf, paced, holding, settleCall, Settled, lent, roomy, settledOf, settled}
 
 -- A CARD to drill on: Loaded, with replay protection, wallet number 1
 abbrev cid0 : List ℕ
@@ -42,7 +43,7 @@ card0 remaining signed counted stored =
     record {
       face = record {
         front = record {
-          fixed = record { cid = cid0; cvc = replicate cvcSize 48; curve = 1; max = 100; seed = replicate seedSize 0 };
+          fixed = record { cid = cid0; cvc = replicate cvcSize 48; curve = 1; max = 100; seed = replicate seedSize 0; pause = 0 };
           flags = flags0;
           wallet = record { status = 2; number = 1; remaining = remaining; signed = signed };
           key = heldKey (4 ∷ replicate 64 8);
@@ -53,6 +54,7 @@ card0 remaining signed counted stored =
           protected = noBlock;
           issuer = record { block = noBlock; signature = replicate signatureSize 0; counter = stored };
         };
+        pending = noPending;
         last = noLast;
       };
       codes = codes0;
@@ -119,8 +121,8 @@ pub drill :
     -- (12) user counters at 4,294,967,295 after a SIGN: 0
     × (next (five 5 0 4294967295) .face .front .counters .user ≡ 0) × (next (five 5 0 4294967295) .face .front .counters .protected ≡ 0)
 unfolding restFrom runN stepAt fieldAt wellFormed viewOf sentIn judgedBy has val holds twice part alike written each joined tlv headOf put fit room blockOf lcOf
-    insOf plain allowed said answered done shaped hashQuestions settled settledOf lent roomy encode encCodes encFront encHeld encFace encFixed encFlags
-    encWallet encKey encCounters encBlock encIssuer encLast decode isCard okFace okFront okHeld okFlags okRanges okState okKey keySize okBlock okIssuer
-    okLast allZero
+    insOf plain allowed said paced paceOf paceBy isHeld requestOf answered done shaped hashQuestions settled settledOf lent roomy encode encCodes encFront encHeld encFace encFixed encFlags
+    encWallet encKey encCounters encBlock encIssuer encWait encPending encLast decode isCard okFace okFront okHeld okFlags okRanges okState okKey keySize okBlock okIssuer
+    okPending okLast allZero
 drill =
     (refl, refl, refl, refl, (λ m f. refl), (λ m f. refl), (λ m f. refl), refl, refl, refl, refl, refl, refl, refl, refl, refl, refl, refl, refl, refl, refl)

@@ -7,6 +7,8 @@ pub mod Checking
 pub mod Storage
 pub mod Activation
 pub mod Commands
+pub mod Delay
 pub mod Settle
 pub mod Drill
 pub mod ByHand
+pub mod Waited

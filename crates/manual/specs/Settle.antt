@@ -7,21 +7,26 @@ use lib.Dec.{leb, eqb}
 use Rattle.wire.specs.Wire.{be2}
 use Rattle.fields.specs.Fields.{View, viewOf, wellFormed, holds, written, Tagged, fld}
 use Rattle.card.specs.declared.Codes.{Codes}
+use Rattle.card.specs.declared.Pending.{Pending}
 use Rattle.card.specs.declared.Face.{Face}
 use Rattle.card.specs.declared.Card.{Card}
 use Rattle.card.specs.Layout.{imageSize, imageRoom}
+use Rattle.card.specs.Values.{faced, withPending}
 use Rattle.card.specs.Image.{encode, decode}
 use Rattle.card.specs.Valid.{isCard}
-use Rattle.manual.specs.Words.{swProcessCompleted, swErrorProcessingCommand, questionsRoom, responseRoom, drawSize}
+use Rattle.manual.specs.Words.{swProcessCompleted, swErrorProcessingCommand, swNeedPause, questionsRoom, responseRoom, drawSize}
 use Rattle.manual.specs.Tags.{CID, PIN1, PIN2, NewPIN1, NewPIN2}
 use Rattle.manual.specs.declared.Command.{Command}
 use Rattle.manual.specs.Row.{Matched}
 use Rattle.manual.specs.declared.Verdict.{Verdict}
 use Rattle.manual.specs.declared.Verdict.the-variants.{Pass, Stop}
+use Rattle.manual.specs.declared.Pace.{Pace}
+use Rattle.manual.specs.declared.Pace.the-variants.{Refused, Waits, Goes}
 use Rattle.manual.specs.declared.Outcome.{Outcome}
 use Rattle.manual.specs.Request.{command, payload}
 use Rattle.manual.specs.Row.{Question, asked, shaped, Row, gateOf, rules, passed}
 use Rattle.manual.specs.Commands.{row}
+use Rattle.manual.specs.Delay.{paceBy, pendingAfter, pauseFields, pendingOff}
 
 -- WHAT A CALL FINDS: the card's image
 pub record State : Type 0 where
@@ -124,8 +129,49 @@ abbrev pub saidBy : Verdict → Matched → Face → List ℕ → List ℕ → L
 saidBy (Stop n w) m f q d a = refused n w f
 saidBy (Pass k) m f q d a = answered (row k) m f (sentIn q) d a
 
+-- where nobody has to wait
 unfoldable pub said : Matched → Face → List ℕ → List ℕ → List ℕ → Said
 said m f q d a = saidBy (judged m f q) m f q d a
+
+-- THE DELAY around it (02 Ask 7)
+unfoldable pub paceOf : Matched → Face → List ℕ → Pace
+paceOf m f q = paceBy (judged m f q) (row (command q)) m f (sentIn q) q
+
+-- a request that waits: Pause and 9789, without CID; nothing is carried out, and the request is held
+abbrev pub pausing : ℕ → Face → List ℕ → Said
+pausing t f q =
+    record {
+      number = 0;
+      reason = 0;
+      word = swNeedPause;
+      response = written (pauseFields t) ++ be2 swNeedPause;
+      face = withPending (pendingAfter (Waits t) (f .pending) q) f;
+      executed = false;
+    }
+
+-- what is said, with this in the face; "Number 4 leaves all as it was"
+abbrev pub leaving : Pending → Said → Said
+leaving p s =
+    record {
+      number = s .number;
+      reason = s .reason;
+      word = s .word;
+      response = s .response;
+      face = cond (eqb (s .number) 0) (withPending p (s .face)) (s .face);
+      executed = s .executed;
+    }
+
+abbrev pub pacedBy : Pace → Matched → Face → List ℕ → List ℕ → List ℕ → Said
+pacedBy (Refused b) m f q d a = leaving (pendingAfter (Refused b) (f .pending) q) (said m f q d a)
+pacedBy (Waits t) m f q d a = pausing t f q
+pacedBy Goes m f q d a = leaving (pendingAfter Goes (f .pending) q) (said m f q d a)
+
+unfoldable pub paced : Matched → Face → List ℕ → List ℕ → List ℕ → Said
+paced m f q d a = pacedBy (paceOf m f q) m f q d a
+
+-- a card with another wait
+abbrev pub waiting : Pending → Card → Card
+waiting p c = faced (withPending p (c .face)) c
 
 -- the codes after
 abbrev pub recoded : Command → Bool → View → Codes → Codes
@@ -136,6 +182,9 @@ cardAfter s x q = record { face = s .face; codes = recoded (command q) (s .execu
 
 abbrev pub saidTo : Card → List ℕ → List ℕ → List ℕ → Said
 saidTo c q d a = said (matched (c .codes) (sentIn q)) (c .face) q d a
+
+abbrev pub pacedTo : Card → List ℕ → List ℕ → List ℕ → Said
+pacedTo c q d a = paced (matched (c .codes) (sentIn q)) (c .face) q d a
 
 -- what a call returns, and what its buffers then hold
 pub record Settled : Type 0 where
@@ -166,7 +215,7 @@ unfoldable pub lent : Said → Card → List ℕ → List ℕ → Settled
 lent s c out nxt = cond (eqb (s .number) 0) (wrote s c out nxt) (untouched (s .number) out nxt)
 
 unfoldable pub settledOf : Card → List ℕ → List ℕ → List ℕ → List ℕ → List ℕ → Settled
-settledOf c q d a out nxt = lent (saidTo c q d a) (cardAfter (saidTo c q d a) (c .codes) q) out nxt
+settledOf c q d a out nxt = lent (pacedTo c q d a) (cardAfter (pacedTo c q d a) (c .codes) q) out nxt
 
 -- the buffers' least lengths
 unfoldable pub roomy : ℕ → ℕ → Bool
@@ -199,8 +248,27 @@ abbrev pub questionsOf : Verdict → Face → List ℕ → List ℕ → List Que
 questionsOf (Stop n w) f q d = []
 questionsOf (Pass k) f q d = row k .questions f (sentIn q) d
 
+-- of a request that waits: 0, 9789 and none
+abbrev pub pacedReason : Pace → Verdict → ℕ
+pacedReason (Refused b) g = reasonOf g
+pacedReason (Waits t) g = 0
+pacedReason Goes g = reasonOf g
+
+abbrev pub pacedWord : Pace → Verdict → ℕ
+pacedWord (Refused b) g = wordOf g
+pacedWord (Waits t) g = swNeedPause
+pacedWord Goes g = wordOf g
+
+abbrev pub pacedQuestions : Pace → Verdict → Face → List ℕ → List ℕ → List Question
+pacedQuestions (Refused b) g f q d = questionsOf g f q d
+pacedQuestions (Waits t) g f q d = []
+pacedQuestions Goes g f q d = questionsOf g f q d
+
 unfoldable pub askedOf : Matched → Face → List ℕ → List ℕ → List ℕ → Posed
-askedOf m f q d out = posed (reasonOf (judged m f q)) (wordOf (judged m f q)) (asked (questionsOf (judged m f q) f q d)) out
+askedOf m f q d out =
+    let p : Pace = paceOf m f q in
+    let g : Verdict = judged m f q in
+    posed (pacedReason p g) (pacedWord p g) (asked (pacedQuestions p g f q d)) out
 
 abbrev pub askedFrom : Card → List ℕ → List ℕ → List ℕ → Posed
 askedFrom c q d out = askedOf (matched (c .codes) (sentIn q)) (c .face) q d out
@@ -215,3 +283,24 @@ askedFor s i =
     (posedBy (outcome 3 0 0 0) (i .buffers .page)))
     (posedBy (outcome 2 0 0 0) (i .buffers .page)))
     (posedBy (outcome 1 0 0 0) (i .buffers .page))
+
+-- POWER-OFF (02 Ask 7): what is returned, and what the buffer for the next image then holds. No draw is needed
+pub record Off : Type 0 where
+  pub result : Outcome
+  pub next : List ℕ
+
+abbrev pub offOf : Outcome → List ℕ → Off
+offOf r nxt = record { result = r; next = nxt }
+
+abbrev pub offBy : ℕ → List ℕ → Off
+offBy n nxt = offOf (outcome n 0 0 0) nxt
+
+abbrev pub cardOff : Card → Card
+cardOff c = waiting (pendingOff (c .face .pending)) c
+
+-- THE MEANING OF A POWER-OFF
+unfoldable pub poweredOff : State → List ℕ → Off
+poweredOff s nxt =
+    cond (isCard (s .image))
+    (cond (leb imageRoom (length nxt)) (offBy 0 (encode (cardOff (decode (s .image))) ++ drop imageSize nxt)) (offBy 2 nxt))
+    (offBy 1 nxt)

@@ -43,6 +43,9 @@ CardValidationCounter = 0x18
 abbrev pub CVC : ℕ
 CVC = 0x19
 
+abbrev pub Pause : ℕ
+Pause = 0x1C
+
 abbrev pub Mode : ℕ
 Mode = 0x23
 

@@ -26,6 +26,10 @@ swInsNotSupported = 0x6D00
 abbrev pub swClaNotSupported : ℕ
 swClaNotSupported = 0x6E00
 
+-- 02 Ask 7
+abbrev pub swNeedPause : ℕ
+swNeedPause = 0x9789
+
 -- the room that the buffers for questions and for the response have at least
 abbrev pub questionsRoom : ℕ
 questionsRoom = 2048

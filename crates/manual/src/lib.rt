@@ -41,6 +41,14 @@ pub enum Verdict {
     Stop(u8, u16),
 }
 
+// What the delay makes of a request (02 Ask 7): refused by checks 1 to 10, over a code that counts as wrong or not; it waits, so many
+// seconds being left; or it goes on.
+pub enum Pace {
+    Refused(bool),
+    Waits(u8),
+    Goes,
+}
+
 // The part of a command's row that no request changes: whether check 7 is made, whether it runs on a card that is not activated,
 // the statuses that allow it, and whether it asks for the CVC where that is used.
 pub struct Needs {
@@ -87,6 +95,8 @@ impl Outcome {
     pub const SW_INS_NOT_SUPPORTED: u16 = 0x6D00;
 
     pub const SW_CLA_NOT_SUPPORTED: u16 = 0x6E00;
+
+    pub const SW_NEED_PAUSE: u16 = 0x9789;
 }
 
 // The room that the buffers for questions and for the response have at least.

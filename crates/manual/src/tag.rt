@@ -27,6 +27,8 @@ pub const CARD_VALIDATION_COUNTER: u8 = 0x18;
 
 pub const CVC: u8 = 0x19;
 
+pub const PAUSE: u8 = 0x1C;
+
 pub const MODE: u8 = 0x23;
 
 pub const USER_DATA: u8 = 0x2A;

@@ -15,7 +15,7 @@ use Rattle.card.specs.declared.Flags.{Flags}
 use Rattle.card.specs.declared.Card.{Card}
 use Rattle.card.specs.Values.{fresh}
 use Rattle.card.specs.Image.{encode}
-use Rattle.sheet.specs.Sheet.{curveOf, maxOf, flagOf, firstBad}
+use Rattle.sheet.specs.Sheet.{curveOf, maxOf, flagOf, pauseOf, firstBad}
 
 -- THE CARD of a good sheet: fresh, with the values of its lines. The value of line k
 unfoldable pub valueOf : ℕ → List ℕ → List ℕ
@@ -24,7 +24,7 @@ valueOf k s = tailAfter 9 (lineOf k s)
 unfoldable pub sheetCodes : List ℕ → Codes
 sheetCodes s = record { pin1 = pad 32 (unhex (valueOf 2 s)); pin2 = pad 32 (unhex (valueOf 3 s)) }
 
--- cvc is stored as characters
+-- cvc is stored as characters; the pause is 0 where there is no such line
 unfoldable pub sheetFixed : List ℕ → Fixed
 sheetFixed s =
     record {
@@ -33,6 +33,7 @@ sheetFixed s =
       curve = curveOf (valueOf 5 s);
       max = maxOf (valueOf 6 s);
       seed = pad 16 (unhex (valueOf 14 s));
+      pause = pauseOf (valueOf 15 s);
     }
 
 unfoldable pub sheetFlags : List ℕ → Flags

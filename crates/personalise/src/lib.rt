@@ -64,6 +64,7 @@ fn fixed_of(sheet: &[u8]) -> Fixed
         curve: sheet::curve_of(value_of(sheet, 5)),
         max: sheet::max_of(value_of(sheet, 6)),
         seed: hex16(value_of(sheet, 14)),
+        pause: sheet::pause_of(value_of(sheet, 15)),
     }
 }
 

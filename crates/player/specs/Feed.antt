@@ -17,7 +17,7 @@ use Rattle.player.specs.declared.Fed.{Fed}
 abbrev pub atFirst : Player
 atFirst = record { play = start; lines = 0; held = 0 }
 
--- after a play nothing is held, and no more line belongs to the sheet
+-- after a play nothing is held, and the lines that a sheet must have are through
 abbrev pub after : Play → Player
 after y = record { play = y; lines = sheetLines; held = 0 }
 

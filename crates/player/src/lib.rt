@@ -71,7 +71,7 @@ fn quiet(player: Player) -> Fed
     Fed { player, length: 0 }
 }
 
-// After a play nothing is held, and no more line belongs to the sheet.
+// After a play nothing is held, and the lines that a sheet must have are through.
 fn after(t: Turn) -> Fed
     ensures { λ r. ⌜ r ≡ record { player = after (t .play); length = t .length } ⌝ }
 {

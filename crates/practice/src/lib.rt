@@ -1,50 +1,31 @@
-// Ask and settle, 01 "Two calls": the practice card, and its C face.
+// Ask and settle, 01 "Two calls", and the power-off of 02 Ask 7: the practice card, and its C face.
+mod ending;
+
+use card::Wait;
 use card::layout;
 use manual::Command;
 use manual::Outcome;
+use manual::Pace;
 use manual::Verdict;
 use sent::Places;
 use wire::Check;
 ghost use mathlib.Core.Path.{_≡_};
 ghost use Prim.Native.Nat.{_≤_};
-ghost use lib.ListN.{length};
+ghost use mathlib.Core.List.{_++_};
+ghost use lib.ListN.{length, drop};
 ghost use lib.Dec.{eqb, leb};
-ghost use Rattle.wire.specs.Wire.{verdict, be2, Wrotes};
+ghost use Rattle.wire.specs.Wire.{verdict, Wrotes};
 ghost use Rattle.sent.specs.Sent.{viewBy};
 ghost use Rattle.card.specs.Layout.{imageSize, imageRoom};
-ghost use Rattle.card.specs.Image.{decode};
+ghost use Rattle.card.specs.Image.{encode, decode};
 ghost use Rattle.personalise.specs.Personalise.{personalised};
 ghost use Rattle.manual.specs.Words.{questionsRoom, responseRoom, drawSize};
 ghost use Rattle.manual.specs.Row.{eachAsked};
 ghost use Rattle.manual.specs.Commands.{row};
-ghost use Rattle.manual.specs.Settle.{holding, wordOf, reasonOf, refused, responseOf, outcome, settledBy, over, lent, settledOf, roomy, settled, settleCall};
-ghost use Rattle.manual.specs.Settle.{posedBy, askedFrom, askedFor, askCall};
+ghost use Rattle.manual.specs.Settle.{holding, responseOf, settledBy, settledOf, roomy, settled, settleCall};
+ghost use Rattle.manual.specs.Settle.{posedBy, askedFrom, askedFor, askCall, offOf, poweredOff};
 ghost use Rattle.gate.specs.Gate.{laterOf};
-ghost use Rattle.practice.specs.Carried.{Says, madeBy, confirmedIn, answeredIn};
-
-// Numbers 1 to 4: nothing is written, and no check has failed.
-fn only(number: u8) -> Outcome
-    ensures { λ r. ⌜ r ≡ outcome number 0 0 0 ⌝ }
-{
-    Outcome {
-        number,
-        reason: 0,
-        word: 0,
-        length: 0,
-    }
-}
-
-// Number 0: the check that refuses, 0 where none does; a status word, and the length written.
-fn told(reason: u8, word: u16, length: u32) -> Outcome
-    ensures { λ r. ⌜ r ≡ outcome 0 reason word length ⌝ }
-{
-    Outcome {
-        number: 0,
-        reason,
-        word,
-        length,
-    }
-}
+ghost use Rattle.practice.specs.Carried.{Says, paceIn, isWaiting, leftCard, madeBy, confirmedIn, answeredIn};
 
 fn has_rooms(response: usize, next: usize) -> Check
     ensures { λ r. ⌜ r ≡ verdict (roomy response next) ⌝ }
@@ -65,37 +46,6 @@ fn is_draw(draw: &[u8]) -> Check
     ensures { λ r. ⌜ r ≡ verdict (eqb (length (now (draw .entry))) drawSize) ⌝ }
 {
     wire::checked(draw.len() == manual::DRAW_SIZE)
-}
-
-// A verdict, and the length written.
-fn says(v: Verdict, length: u32) -> Outcome
-    ensures { λ r. ⌜ r ≡ outcome 0 (reasonOf v) (wordOf v) length ⌝ }
-{
-    match v {
-        Verdict::Pass(_) => told(0, Outcome::SW_PROCESS_COMPLETED, length),
-        Verdict::Stop(check, word) => told(check, word, length),
-    }
-}
-
-// A verdict, and its status word alone.
-fn word_alone(v: Verdict, response: &mut [u8]) -> Outcome
-    requires { ⌜ responseRoom ≤ length (now response) ⌝ }
-    ensures { λ r. ⌜ (r ≡ outcome 0 (reasonOf v) (wordOf v) 2) × (now (response .exit) ≡ over (be2 (wordOf v)) (now (response .entry))) ⌝ }
-{
-    let o = says(v, 2);
-    wire::put16(response, 0, o.word);
-    o
-}
-
-// Refused by checks 1 to 12: the status word alone; the next image is the old one.
-fn refuse(img: &[u8], v: Verdict, response: &mut [u8], next: &mut [u8]) -> Outcome
-    requires { ⌜ (responseRoom ≤ length (now response)) × (imageRoom ≤ length (now next)) × (length (now img) ≡ imageSize) ⌝ }
-    ensures { λ r. ⌜ settledBy r (now (response .exit)) (now (next .exit))
-        ≡ lent (refused (reasonOf v) (wordOf v) (decode (now (img .entry)) .face)) (decode (now (img .entry)))
-        (now (response .entry)) (now (next .entry)) ⌝ }
-{
-    changes::keep(img, next);
-    word_alone(v, response)
 }
 
 // The fields of the card after, and the status word.
@@ -129,6 +79,17 @@ fn made(cmd: Command, confirmed: Check) -> Command
     cmd
 }
 
+// The next image: what the command leaves, and nothing held or counted.
+fn renew(cmd: Command, img: &[u8], p: &[u8], places: &Places, answers: &[u8], next: &mut [u8])
+    requires { ⌜ (imageRoom ≤ length (now next)) × (length (now img) ≡ imageSize) ⌝ }
+    ensures { λ _. ⌜ now (next .exit)
+        ≡ encode (leftCard cmd (decode (now (img .entry))) (viewBy (now (p .entry)) (now (places .entry))) (now (answers .entry)))
+        ++ drop imageSize (now (next .entry)) ⌝ }
+{
+    changes::change(cmd, img, p, places, answers, next);
+    writing::anew::pending(next, Wait::none(), &[]);
+}
+
 // Check 13, then the command.
 fn carry_out(
     cmd: Command,
@@ -146,9 +107,9 @@ fn carry_out(
         (now (response .entry)) (now (next .entry)) ⌝ }
 {
     let confirmed = answers::confirmation(cmd, answers);
-    changes::change(made(cmd, confirmed), img, p, places, answers, next);
+    renew(made(cmd, confirmed), img, p, places, answers, next);
     let Check::Fine = confirmed else {
-        return word_alone(
+        return ending::word_alone(
             Verdict::Stop(13, Outcome::SW_ERROR_PROCESSING_COMMAND),
             response,
         );
@@ -156,7 +117,7 @@ fn carry_out(
     let word = tells::word(cmd, img, p, places);
     let after = wire::part(next, 0, layout::IMAGE_SIZE);
     let length = respond(cmd, after, word, p, places, draw, answers, response);
-    told(0, word, length)
+    ending::told(0, word, length)
 }
 
 // Number 4, then check 13, then the command.
@@ -176,7 +137,7 @@ fn answer(
         (now (response .entry)) (now (next .entry)) ⌝ }
 {
     let Check::Fine = answers::shape(cmd, img, p, places, answers) else {
-        return only(Outcome::NO_ANSWERS);
+        return ending::only(Outcome::NO_ANSWERS);
     };
     carry_out(cmd, img, p, places, draw, answers, response, next)
 }
@@ -198,6 +159,14 @@ fn judge(cmd: Command, img: &[u8], q: &[u8], p: &[u8], whole: bool, places: &Pla
     gate::judge(cmd, sized(img), q, p, whole, places)
 }
 
+// The pace of a request, by an image whose length is known.
+fn pace_of(v: Verdict, cmd: Command, img: &[u8], q: &[u8], p: &[u8], places: &Places) -> Pace
+    requires { ⌜ length (now img) ≡ imageSize ⌝ }
+    ensures { λ r. ⌜ r ≡ paceIn v cmd (decode (now (img .entry))) (viewBy (now (p .entry)) (now (places .entry))) (now (q .entry)) ⌝ }
+{
+    delay::pace(v, cmd, sized(img), q, p, places)
+}
+
 fn settle_card(
     img: &[u8],
     request: &[u8],
@@ -213,14 +182,19 @@ fn settle_card(
 {
     let h = gate::header(request);
     let Verdict::Pass(cmd) = h else {
-        return refuse(img, h, response, next);
+        // No code was looked at.
+        return ending::hold(Pace::Refused(false), h, img, request, response, next);
     };
     let p = request::body(request);
     let mut places = [0u32; sent::WORDS];
     let whole = sent::fill(p, &mut places);
     let v = judge(cmd, img, request, p, whole, &places);
+    let pace = pace_of(v, cmd, img, request, p, &places);
+    let Pace::Goes = pace else {
+        return ending::hold(pace, v, img, request, response, next);
+    };
     let Verdict::Pass(_) = v else {
-        return refuse(img, v, response, next);
+        return ending::hold(pace, v, img, request, response, next);
     };
     answer(cmd, img, p, &places, draw, answers, response, next)
 }
@@ -239,13 +213,13 @@ pub fn settle(
         (settleCall (now (request .entry)) (now (draw .entry)) (now (answers .entry)) (now (response .entry)) (now (next .entry))) ⌝ }
 {
     let Check::Fine = image::is_card(image) else {
-        return only(Outcome::NO_CARD);
+        return ending::only(Outcome::NO_CARD);
     };
     let Check::Fine = has_rooms(response.len(), next.len()) else {
-        return only(Outcome::NO_ROOM);
+        return ending::only(Outcome::NO_ROOM);
     };
     let Check::Fine = is_draw(draw) else {
-        return only(Outcome::NO_DRAW);
+        return ending::only(Outcome::NO_DRAW);
     };
     settle_card(image, request, draw, answers, response, next)
 }
@@ -260,6 +234,16 @@ fn pose(cmd: Command, img: &[u8], p: &[u8], places: &Places, draw: &[u8], out: &
     questions::pose(cmd, sized(img), p, places, draw, out)
 }
 
+fn is_waiting(pace: Pace) -> bool
+    ensures { λ r. ⌜ r ≡ isWaiting pace ⌝ }
+{
+    match pace {
+        Pace::Refused(_) => false,
+        Pace::Waits(_) => true,
+        Pace::Goes => false,
+    }
+}
+
 fn ask_card(img: &[u8], request: &[u8], draw: &[u8], questions: &mut [u8]) -> Outcome
     requires { ⌜ (questionsRoom ≤ length (now questions)) × (length (now img) ≡ imageSize) ⌝ }
     ensures { λ r. ⌜ posedBy r (now (questions .exit))
@@ -267,17 +251,21 @@ fn ask_card(img: &[u8], request: &[u8], draw: &[u8], questions: &mut [u8]) -> Ou
 {
     let h = gate::header(request);
     let Verdict::Pass(cmd) = h else {
-        return says(h, 0);
+        return ending::says(h, 0);
     };
     let p = request::body(request);
     let mut places = [0u32; sent::WORDS];
     let whole = sent::fill(p, &mut places);
     let v = judge(cmd, img, request, p, whole, &places);
+    let pace = pace_of(v, cmd, img, request, p, &places);
+    if is_waiting(pace) {
+        return ending::told(0, Outcome::SW_NEED_PAUSE, 0);
+    }
     let Verdict::Pass(_) = v else {
-        return says(v, 0);
+        return ending::says(v, 0);
     };
     let n = pose(cmd, img, p, &places, draw, questions);
-    says(v, n as u32)
+    ending::says(v, n as u32)
 }
 
 // Takes an image, a request and a draw; writes the questions for the crypto provider.
@@ -286,15 +274,28 @@ pub fn ask(image: &[u8], request: &[u8], draw: &[u8], questions: &mut [u8]) -> O
         ≡ askedFor (holding (now (image .entry))) (askCall (now (request .entry)) (now (draw .entry)) (now (questions .entry))) ⌝ }
 {
     let Check::Fine = image::is_card(image) else {
-        return only(Outcome::NO_CARD);
+        return ending::only(Outcome::NO_CARD);
     };
     let Check::Fine = has_room(questions.len()) else {
-        return only(Outcome::NO_ROOM);
+        return ending::only(Outcome::NO_ROOM);
     };
     let Check::Fine = is_draw(draw) else {
-        return only(Outcome::NO_DRAW);
+        return ending::only(Outcome::NO_DRAW);
     };
     ask_card(image, request, draw, questions)
+}
+
+// The card leaves the reader's field: takes an image, and writes the next one.
+pub fn power_off(image: &[u8], next: &mut [u8]) -> Outcome
+    ensures { λ r. ⌜ offOf r (now (next .exit)) ≡ poweredOff (holding (now (image .entry))) (now (next .entry)) ⌝ }
+{
+    let Check::Fine = image::is_card(image) else {
+        return ending::only(Outcome::NO_CARD);
+    };
+    let Check::Fine = wire::checked(layout::IMAGE_ROOM <= next.len()) else {
+        return ending::only(Outcome::NO_ROOM);
+    };
+    ending::switch_off(image, next)
 }
 
 // The C face: the same calls under plain names.
@@ -325,6 +326,13 @@ pub extern "C" fn practice_settle(
         (settleCall (now (request .entry)) (now (draw .entry)) (now (answers .entry)) (now (response .entry)) (now (next .entry)))) ⌝ }
 {
     settle(image, request, draw, answers, response, next)
+}
+
+#[no_mangle]
+pub extern "C" fn practice_power_off(image: &[u8], next: &mut [u8]) -> Outcome
+    ensures { λ o. ⌜ (offOf o (now (next .exit)) ≡ poweredOff (holding (now (image .entry))) (now (next .entry))) ⌝ }
+{
+    power_off(image, next)
 }
 
 #[no_mangle]

@@ -1,20 +1,19 @@
 -- WHICH LINE IS BAD: its number in the file, one of the sheet's, or after it one more for each tap before it. Assumes nothing.
-use Prim.Native.Nat.{ℕ, zero, suc, _+_, _≤_, _<_}
-use native.Mathlib.Numerals.{add-one}
+use Prim.Native.Nat.{ℕ, zero, suc, _+_, _≤_}
 use native.Mathlib.Omega.{arith}
-use mathlib.Core.Path.{_≡_, refl, sym, ap, _∙_}
-use mathlib.Core.List.{List, [], _∷_, _++_, append-nil}
+use mathlib.Core.Path.{_≡_, refl, ap, _∙_}
+use mathlib.Core.List.{List, [], _∷_, _++_}
 use mathlib.Core.Bool.{false}
-use lib.ListN.{length, take, drop, length-take, length-drop}
+use lib.ListN.{length}
 use lib.Dec.{eqb}
-use borrow.Author.Tests.{le-ltb}
 use Rattle.wire.specs.Wire.{joined}
 use Rattle.wire.proofs.Laws.{by-cases}
-use Rattle.text.specs.Lines.{lengthTo, tailAfter, startOf, fromLine, before, linesOf}
-use Rattle.text.proofs.LineLaws.{next-is-tail, none-left, tail-on, tail-here}
-use Rattle.sheet.specs.Sheet.{sheetLines, rowOf, goodLine, badFrom, firstBad, sheetIn, lineAfter}
-use Rattle.sheet.proofs.Laws.{bad-end, is-ended, after-some}
+use Rattle.text.specs.Lines.{lengthTo, tailAfter, before, linesOf}
+use Rattle.text.proofs.LineLaws.{tail-on, tail-here}
+use Rattle.sheet.specs.Sheet.{sheetLines, firstBad, hasPause, sheetIn, lineAfter}
+use Rattle.sheet.proofs.Laws.{after-some}
 use Rattle.sheets_back.proofs.Parted.{sheet-then-lines}
+use Rattle.sheets_back.proofs.Paused.{same-bad, bad-required}
 use Rattle.tapline.specs.Line.{isTapLine, recorded}
 use Rattle.recording.specs.Recording.{tapsIn, mostTaps, noTaps, tapThen, tapsFrom, tapsOf}
 use Rattle.recorded.specs.Facts.{Lines, Read}
@@ -42,45 +41,9 @@ lines-are-parted (b ∷ s) =
     (λ e. (record { some = omega arith; whole = tail-here 10 b [] e; fed = λ _ t. tail-here 10 b t e }, lines-are-parted s))
     (λ e. before-parts b (linesOf s) e (lines-are-parted s))
 
--- lines taken from the front, and all but the first
-first-lines : (n : ℕ) (ls : List (List ℕ)) → Lines ls → Lines (take n ls)
-first-lines zero ls x = tt
-first-lines (suc n) [] x = tt
-first-lines (suc n) (l ∷ ls) x =
-    (record { some = x .0 .some; whole = x .0 .whole; fed = λ h. x .0 .fed (omega (arith, length-take n ls)) }, first-lines n ls (x .1))
-
-after-line : (ls : List (List ℕ)) → Lines ls → tailAfter 10 (joined ls) ≡ joined (drop 1 ls)
-unfolding joined
-after-line [] x = nothing-after
-after-line (l ∷ []) x = ap (tailAfter 10) (append-nil l) ∙ x .0 .whole
-after-line (l ∷ (k ∷ ls)) x = x .0 .fed (omega arith) (joined (k ∷ ls))
-
-later-lines : (ls : List (List ℕ)) → Lines ls → Lines (drop 1 ls)
-later-lines [] x = tt
-later-lines (l ∷ ls) x = x .1
-
-bad-within : (n k : ℕ) (s : List ℕ) (ls : List (List ℕ)) → 1 ≤ k → length ls ≤ n → Lines ls → fromLine k s ≡ joined ls → badFrom n k s < k + n
-unfolding badFrom joined
-bad-within zero k s [] h l x e = rw (bad-end k s, le-ltb (startOf k s) (length s) (none-left k s e)) (omega arith)
-bad-within zero k s (v ∷ ls) h l x e = absurd (omega arith)
-bad-within (suc n) k s ls h l x e =
-    by-cases (λ (r : ℕ). r < k + suc n) (goodLine (rowOf k) (fromLine k s)) {x = badFrom n (suc k) s} {y = k}
-    (λ g.
-    let f = is-ended (rowOf k) (fromLine k s) g in
-    let z : fromLine (suc k) s ≡ joined (drop 1 ls) =
-    ap (λ (j : ℕ). fromLine j s) (sym (add-one k)) ∙ (sym (next-is-tail k s h f) ∙ (ap (tailAfter 10) e ∙ after-line ls x)) in
-    let m = bad-within n (suc k) s (drop 1 ls) (omega arith) (omega (arith, length-drop 1 ls)) (later-lines ls x) z in
-    omega arith)
-    (λ _. omega arith)
-
--- THE BAD LINE OF A SHEET is one of its lines
+-- THE BAD LINE OF A SHEET is one of its lines that must be there
 pub bad-in-sheet : (s : List ℕ) → firstBad (sheetIn s) ≤ sheetLines
-unfolding firstBad sheetIn fromLine startOf
-bad-in-sheet s =
-    let ls : List (List ℕ) = take sheetLines (linesOf s) in
-    let few : length ls ≤ sheetLines = omega (arith, length-take sheetLines (linesOf s)) in
-    let z = bad-within sheetLines 1 (joined ls) ls (omega arith) few (first-lines sheetLines (linesOf s) (lines-are-parted s)) refl in
-    omega arith
+bad-in-sheet s = omega (arith, same-bad s, bad-required s)
 
 taps-read : (most n : ℕ) (ls : List (List ℕ)) → 1 ≤ n → Read most n (length ls) (tapsFrom most n ls)
 unfolding tapsFrom
@@ -95,6 +58,6 @@ taps-read (suc most) n (l ∷ ls) h =
 
 -- THE TAPS OF A RECORDING: at most 10,000; all lines after the sheet, or those before a bad one, whose number is that of the line after the sheet and
 -- one more for each tap
-pub taps-of-recording : (s : List ℕ) → Read mostTaps (lineAfter 0) (length (tapsIn s)) (tapsOf s)
+pub taps-of-recording : (s : List ℕ) → Read mostTaps (lineAfter (hasPause s) 0) (length (tapsIn s)) (tapsOf s)
 unfolding tapsOf
-taps-of-recording s = taps-read mostTaps (lineAfter 0) (tapsIn s) (omega (arith, after-some 0))
+taps-of-recording s = taps-read mostTaps (lineAfter (hasPause s) 0) (tapsIn s) (omega (arith, after-some (hasPause s) 0))

@@ -24,7 +24,7 @@ use Rattle.manual.specs.Settle.{holding, Call}
 use Rattle.story.specs.Sums.{Sheet, History, isDone, accepted, status, made}
 use Rattle.story.specs.Buffers.{response}
 use Rattle.history.specs.Demands.{AnyCard, Demand2, Event, tapped, imageBy, left, played, Fresh, Kept}
-use Rattle.history.specs.Facts.{Unchanged}
+use Rattle.history.specs.Facts.{Stays}
 use Rattle.history.proofs.Choice.{clash}
 use Rattle.history.proofs.Events.{played-more, left-more}
 use Rattle.history.proofs.Images.{model, model-demand2, model-demand3}
@@ -177,8 +177,8 @@ last-line s e b =
 pub number-keeps : (p : Played) (t : Recorded) → eqb (settledFor (p .image) t .result .number) 0 ≡ false → afterTap p t .image ≡ p .image
 number-keeps p t e = rw e
 
--- after any refusal it is the card that it was
-pub refusal-keeps-card : (p : Played) (t : Recorded) → isDone (settledFor (p .image) t .result .word) ≡ false → Unchanged (p .image) (afterTap p t .image)
+-- after any refusal it is the card that it was, but for the wait
+pub refusal-keeps-card : (p : Played) (t : Recorded) → isDone (settledFor (p .image) t .result .word) ≡ false → Stays (p .image) (afterTap p t .image)
 refusal-keeps-card p t e = refusal-keeps model model-demand2 (holding (p .image)) (callOf t) e
 
 -- a tap that was not accepted adds nothing to the sums

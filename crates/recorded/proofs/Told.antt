@@ -47,11 +47,12 @@ Fine x = (eqb (x .result .number) 0 || eqb (x .result .number) 4) ≡ true
 settled-fine : (m : List ℕ) (i : Call) → Fine (settledOf (decode m) (i .request) (i .draw) (i .answers) (i .buffers .out) (i .buffers .next))
 unfolding settledOf lent done
 settled-fine m i =
-    by-outcome (λ s _. Fine (lent s (cardAfter s (decode m .codes) (i .request)) (i .buffers .out) (i .buffers .next)))
+    by-outcome (λ s _ _ _. Fine (lent s (cardAfter s (decode m .codes) (i .request)) (i .buffers .out) (i .buffers .next)))
     (matched (decode m .codes) (sentIn (i .request))) (decode m .face) (i .request) (i .draw) (i .answers)
-    (λ _ _ _ _. refl)
+    (λ _ _ _. refl)
     (λ _ _. refl)
-    (λ _. refl)
+    (λ _ _. refl)
+    (λ _ _ _. refl)
     (λ _ _ _. refl)
 
 -- NUMBERS 1 TO 3 are for what is no card, for small buffers and for other draws, so a tap on a card meets none of them

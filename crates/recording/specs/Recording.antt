@@ -2,7 +2,7 @@
 use Prim.Native.Nat.{ℕ, zero, suc, _/_}
 use mathlib.Core.List.{List, [], _∷_}
 use mathlib.Core.Bool.{cond}
-use Rattle.sheet.specs.Sheet.{afterSheet, lineAfter}
+use Rattle.sheet.specs.Sheet.{hasPause, afterSheet, lineAfter}
 use Rattle.tapline.specs.Line.{longest, isTapLine, Recorded, recorded}
 
 -- each line after the sheet is a tap
@@ -35,4 +35,4 @@ tapsFrom zero n (l ∷ ls) = noTaps n
 tapsFrom (suc most) n (l ∷ ls) = cond (isTapLine l) (tapThen (recorded l) (tapsFrom most (suc n) ls)) (noTaps n)
 
 unfoldable pub tapsOf : List ℕ → Taps
-tapsOf s = tapsFrom mostTaps (lineAfter 0) (tapsIn s)
+tapsOf s = tapsFrom mostTaps (lineAfter (hasPause s) 0) (tapsIn s)

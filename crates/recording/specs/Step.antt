@@ -2,12 +2,13 @@
 use Prim.Native.Nat.{ℕ, _+_, _*_}
 use mathlib.Core.Path.{_≡_}
 use mathlib.Core.List.{List, [], _∷_, _++_}
-use mathlib.Core.Bool.{Bool, true, false, cond, _&&_}
+use mathlib.Core.Bool.{Bool, true, false, cond, not, _&&_}
 use lib.ListN.{length, take, replicate}
 use lib.Dec.{leb, ltb, eqb}
-use Rattle.card.specs.Layout.{imageSize, imageRoom}
+use Rattle.wire.specs.Wire.{put, be1}
+use Rattle.card.specs.Layout.{pauseAt, imageSize, imageRoom}
 use Rattle.card.specs.Image.{encode}
-use Rattle.sheet.specs.Sheet.{firstBad, sheetIn, lineAfter}
+use Rattle.sheet.specs.Sheet.{valueIn, pauseOf, firstBad, isPauseLine, hasPause, requiredIn, afterRequired, lineAfter}
 use Rattle.personalise.specs.Personalise.{sheetCard}
 use Rattle.text.specs.Text.{unhex}
 use Rattle.manual.specs.declared.Outcome.{Outcome}
@@ -18,7 +19,7 @@ use Rattle.recording.specs.declared.Turn.{Turn}
 use Rattle.tapline.specs.Line.{Recorded, drawIn, answersIn, isTapLine, recorded}
 use Rattle.sums.specs.Counted.{noSums}
 use Rattle.printing.specs.Printing.{badText}
-use Rattle.recording.specs.Recording.{tapsIn, mostTaps}
+use Rattle.recording.specs.Recording.{mostTaps}
 use Rattle.recording.specs.Play.{Played, afterTap, textOf, lastText}
 
 -- AFTER A LINE: what is kept, the card's image, and what is printed
@@ -27,21 +28,22 @@ pub record Stepped : Type 0 where
   pub image : List ℕ
   pub text : List ℕ
 
-abbrev pub playing : Played → Play
-playing p = record { taps = p .taps; sums = p .sums; ended = false }
+-- whether the sheet had a pause is kept for the numbers of lines
+abbrev pub playing : Bool → Played → Play
+playing paused p = record { taps = p .taps; sums = p .sums; paused = paused; ended = false }
 
 abbrev pub played : Play → List ℕ → Played
 played y m = record { taps = y .taps; sums = y .sums; image = m }
 
 abbrev pub endedAt : Play → Play
-endedAt y = record { taps = y .taps; sums = y .sums; ended = true }
+endedAt y = record { taps = y .taps; sums = y .sums; paused = y .paused; ended = true }
 
 -- a line that ends the play, and its number
 abbrev pub stopped : Play → List ℕ → ℕ → Stepped
 stopped y m n = record { play = endedAt y; image = m; text = badText n }
 
-abbrev pub tapped : Played → Recorded → Stepped
-tapped p t = record { play = playing (afterTap p t); image = afterTap p t .image; text = textOf p t }
+abbrev pub tapped : Bool → Played → Recorded → Stepped
+tapped paused p t = record { play = playing paused (afterTap p t); image = afterTap p t .image; text = textOf p t }
 
 abbrev pub nothing : Play → List ℕ → Stepped
 nothing y m = record { play = y; image = m; text = [] }
@@ -58,30 +60,48 @@ renewed number nxt m = cond (eqb number 0) (take imageSize nxt) m
 abbrev pub isNext : ℕ → List ℕ → Bool
 isNext taps s = ltb taps mostTaps && isTapLine s
 
--- ONE MORE LINE: nothing once the play has ended; a line that is not the next tap ends it
+-- a pause, which stands before any tap and once: it is set in the card, and nothing is printed
+abbrev pub isFirstPause : Play → List ℕ → Bool
+isFirstPause y s = eqb (y .taps) 0 && (not (y .paused) && isPauseLine s)
+
+abbrev pub pausing : Play → List ℕ → List ℕ → Stepped
+pausing y m s =
+    record {
+      play = record { taps = y .taps; sums = y .sums; paused = true; ended = false };
+      image = put m pauseAt (be1 (pauseOf (valueIn s)));
+      text = [];
+    }
+
+-- ONE MORE LINE: nothing once the play has ended; a line that is neither the sheet's pause nor the next tap ends it
 unfoldable pub stepped : Play → List ℕ → List ℕ → Stepped
 stepped y m s =
-    cond (y .ended) (nothing y m) (cond (isNext (y .taps) s) (tapped (played y m) (recorded s)) (stopped y m (lineAfter (y .taps))))
+    cond (y .ended) (nothing y m)
+    (cond (isFirstPause y s) (pausing y m s)
+    (cond (isNext (y .taps) s) (tapped (y .paused) (played y m) (recorded s)) (stopped y m (lineAfter (y .paused) (y .taps)))))
 
 -- THE SHEET: a fresh card, or the number of its first bad line
+abbrev pub startWith : Bool → Play
+startWith paused = record { taps = 0; sums = noSums; paused = paused; ended = false }
+
 abbrev pub start : Play
-start = record { taps = 0; sums = noSums; ended = false }
+start = startWith false
 
 unfoldable pub started : List ℕ → List ℕ → Stepped
 started sheet m =
-    cond (eqb (firstBad sheet) 0) (record { play = start; image = encode (sheetCard sheet); text = [] }) (stopped start m (firstBad sheet))
+    cond (eqb (firstBad sheet) 0) (record { play = startWith (hasPause sheet); image = encode (sheetCard sheet); text = [] }) (stopped start m (firstBad sheet))
 
 -- THE END: the sums, where no line has ended the play
 unfoldable pub finished : Play → List ℕ → Stepped
 finished y m = cond (y .ended) (nothing y m) (record { play = endedAt y; image = m; text = lastText m (y .sums) })
 
--- THE PLAY BY STEPS: what lines print one after the other, and then the end; and what a whole recording prints, its sheet first
+-- THE PLAY BY STEPS: what lines print one after the other, and then the end; and what a whole recording prints, the
+-- lines of its sheet that must be there first
 unfoldable pub runText : Play → List ℕ → List (List ℕ) → List ℕ
 runText y m [] = finished y m .text
 runText y m (l ∷ ls) = stepped y m l .text ++ runText (stepped y m l .play) (stepped y m l .image) ls
 
 unfoldable pub stepsText : List ℕ → List ℕ → List ℕ
-stepsText m s = let z = started (sheetIn s) m in z .text ++ runText (z .play) (z .image) (tapsIn s)
+stepsText m s = let z = started (requiredIn s) m in z .text ++ runText (z .play) (z .image) (afterRequired s)
 
 -- what the code promises on the way: settle's outcome, response and image; and a line at the start of the buffer, with its length
 pub record Gave (x : Settled) (m : List ℕ) (r : Outcome) (out m′ : List ℕ) : Type 0 where

@@ -12,12 +12,14 @@ ghost use Rattle.wire.specs.Wire.{alike};
 ghost use Rattle.card.specs.Layout.{imageSize, imageRoom};
 ghost use Rattle.manual.specs.Words.{responseRoom};
 ghost use Rattle.manual.specs.Settle.{over};
+ghost use lib.Dec.{eqb};
+ghost use Rattle.sheet.specs.Sheet.{isPauseLine};
 ghost use Rattle.text.specs.Text.{unhex};
 ghost use Rattle.tapline.specs.Line.{requestIn, longest, recordedIn};
 ghost use Rattle.printing.specs.Printing.{toldAs, tapText, badText};
 ghost use Rattle.recording.specs.Recording.{mostTaps};
 ghost use Rattle.recording.specs.Play.{lastText};
-ghost use Rattle.recording.specs.Step.{start, endedAt, played, tapped, isNext, stepped, started, finished};
+ghost use Rattle.recording.specs.Step.{startWith, start, endedAt, played, tapped, isNext, isFirstPause, pausing, stepped, started, finished};
 ghost use Rattle.recording.specs.Step.{settledIn, renewed, Gave, Says, lineRoom, roomFor, leftBy, wrote, leaves};
 
 // The most taps of a recording.
@@ -29,10 +31,11 @@ pub const LINE_ROOM: usize = 2 * manual::RESPONSE_ROOM + 256;
 // Room for what a field spells, of the longest line.
 const FIELD_ROOM: usize = tapline::LONGEST / 2;
 
-// What lasts from line to line: the taps so far and their sums, and whether the play has ended.
+// What lasts from line to line: the taps so far and their sums, whether the sheet had a pause, and whether the play has ended.
 pub struct Play {
     pub taps: u16,
     pub sums: Sums,
+    pub paused: bool,
     pub ended: bool,
 }
 
@@ -63,14 +66,21 @@ fn quiet(play: Play) -> Turn
 }
 
 // Before the first tap.
-pub fn new_play() -> Play
-    ensures { λ r. ⌜ r ≡ start ⌝ }
+fn play_with(paused: bool) -> Play
+    ensures { λ r. ⌜ r ≡ startWith paused ⌝ }
 {
     Play {
         taps: 0,
         sums: sums::none(),
+        paused,
         ended: false,
     }
+}
+
+pub fn new_play() -> Play
+    ensures { λ r. ⌜ r ≡ start ⌝ }
+{
+    play_with(false)
 }
 
 fn end(play: Play) -> Play
@@ -80,6 +90,7 @@ fn end(play: Play) -> Play
     Play {
         taps: play.taps,
         sums,
+        paused: play.paused,
         ended: true,
     }
 }
@@ -149,7 +160,7 @@ fn tap_with(play: Play, request: &[u8], l: &[u8], img: &mut [u8], out: &mut [u8]
         × (lineRoom ≤ length (now out)) ⌝ }
     ensures { λ r.
         ⌜ leftBy r (now (img .exit)) (now (out .exit))
-        ≡ wrote (tapped (played play (now (img .entry))) (recordedIn (now (l .entry)))) (now (out .entry)) ⌝ }
+        ≡ wrote (tapped (play .paused) (played play (now (img .entry))) (recordedIn (now (l .entry)))) (now (out .entry)) ⌝ }
 {
     let mut response = [0u8; manual::RESPONSE_ROOM];
     let o = settle(request, l, img, &mut response);
@@ -160,6 +171,7 @@ fn tap_with(play: Play, request: &[u8], l: &[u8], img: &mut [u8], out: &mut [u8]
         play: Play {
             taps,
             sums: sums::count(play.sums, request, said),
+            paused: play.paused,
             ended: false,
         },
         length,
@@ -170,7 +182,7 @@ fn tap(play: Play, l: &[u8], img: &mut [u8], out: &mut [u8]) -> Turn
     requires { ⌜ (play .taps < mostTaps) × (length (now l) ≤ longest) × (length (now img) ≡ imageSize) × (lineRoom ≤ length (now out)) ⌝ }
     ensures { λ r.
         ⌜ leftBy r (now (img .exit)) (now (out .exit))
-        ≡ wrote (tapped (played play (now (img .entry))) (recordedIn (now (l .entry)))) (now (out .entry)) ⌝ }
+        ≡ wrote (tapped (play .paused) (played play (now (img .entry))) (recordedIn (now (l .entry)))) (now (out .entry)) ⌝ }
 {
     let mut request = [0u8; FIELD_ROOM];
     let n = text::unhex(tapline::request(l), &mut request, 0);
@@ -183,6 +195,30 @@ fn is_next(taps: u16, line: &[u8]) -> bool
     wire::both(taps < MOST_TAPS, tapline::is_tap_line(line))
 }
 
+fn is_first_pause(taps: u16, paused: bool, line: &[u8]) -> bool
+    ensures { λ r. ⌜ r ≡ (eqb taps 0 && (not paused && isPauseLine (now (line .entry)))) ⌝ }
+{
+    let first = wire::both(wire::unless(paused), sheet::is_pause_line(line));
+    wire::both(taps == 0, first)
+}
+
+// The sheet's pause, which the card gets behind its other values.
+fn pause(play: Play, line: &[u8], img: &mut [u8]) -> Turn
+    requires { ⌜ (play .ended ≡ false) × (length (now img) ≡ imageSize) ⌝ }
+    ensures { λ r.
+        ⌜ (r ≡ record { play = pausing play (now (img .entry)) (now (line .entry)) .play; length = 0 })
+        × (now (img .exit) ≡ pausing play (now (img .entry)) (now (line .entry)) .image) ⌝ }
+{
+    writing::anew::pause(img, sheet::pause_in(line));
+    let sums = play.sums;
+    quiet(Play {
+        taps: play.taps,
+        sums,
+        paused: true,
+        ended: false,
+    })
+}
+
 fn fresh_card(sheet: &[u8], img: &mut [u8], out: &mut [u8]) -> Turn
     requires { ⌜ (length (now img) ≡ imageSize) × (lineRoom ≤ length (now out)) ⌝ }
     ensures { λ r. ⌜ leftBy r (now (img .exit)) (now (out .exit)) ≡ wrote (started (now (sheet .entry)) (now (img .entry))) (now (out .entry)) ⌝ }
@@ -191,7 +227,7 @@ fn fresh_card(sheet: &[u8], img: &mut [u8], out: &mut [u8]) -> Turn
     let bad = personalise::personalise(sheet, &mut fresh);
     if bad == 0 {
         renew(0, &fresh, img);
-        return quiet(new_play());
+        return quiet(play_with(sheet::has_pause(sheet)));
     }
     stop(new_play(), bad, out)
 }
@@ -212,10 +248,13 @@ fn play_line(play: Play, line: &[u8], img: &mut [u8], out: &mut [u8]) -> Turn
     requires { ⌜ (play .ended ≡ false) × (length (now img) ≡ imageSize) × (lineRoom ≤ length (now out)) ⌝ }
     ensures { λ r. ⌜ leftBy r (now (img .exit)) (now (out .exit)) ≡ wrote (stepped play (now (img .entry)) (now (line .entry))) (now (out .entry)) ⌝ }
 {
+    if is_first_pause(play.taps, play.paused, line) {
+        return pause(play, line, img);
+    }
     if is_next(play.taps, line) {
         return tap(play, lines::head_to(line, lines::LINE_FEED), img, out);
     }
-    stop(play, sheet::line_after(play.taps), out)
+    stop(play, sheet::line_after(play.paused, play.taps), out)
 }
 
 // One more line, with its line feed.

@@ -6,16 +6,20 @@ use native.Mathlib.Decide.{decLt}
 use mathlib.Core.Path.{_≡_, refl, sym, ap, _∙_}
 use mathlib.Core.List.{List, [], _∷_}
 use mathlib.Core.Bool.{Bool, true, false, cond, _&&_}
-use lib.ListN.{length, getD, List·getD-eq-default}
+use lib.ListN.{length, drop, getD, List·getD-eq-default}
 use lib.Dec.{ltb}
 use borrow.Author.Tests.{ltb-true}
 use Rattle.wire.specs.Wire.{alike}
 use Rattle.wire.proofs.Laws.{both-true, and-false}
 use Rattle.text.specs.Lines.{startOf, fromLine, ended}
 use Rattle.sheet.specs.Sheet.{Row, rows, sheetLines, optional, noRow, rowOf, goodRow}
-use Rattle.sheet.specs.Sheet.{nameIn, valueIn, goodLine, badAfter, badFrom, belongs, lineAfter}
+use Rattle.sheet.specs.Sheet.{nameIn, valueIn, goodLine, badAfter, badFrom, belongs, isPauseLine, sizeWith, lineAfter}
 
--- THE WALK
+-- THE WALK: the text from where a line starts
+pub from-start : (k at : ℕ) (s : List ℕ) → at ≡ startOf k s → drop at s ≡ fromLine k s
+unfolding fromLine
+from-start k at s e = ap (λ (n : ℕ). drop n s) e
+
 module _ (k : ℕ) (s : List ℕ) (h : 1 ≤ k) (h′ : k ≤ sheetLines) where
   pub bad-here : goodLine (rowOf k) (fromLine k s) ≡ false → badFrom (suc sheetLines - k) k s ≡ k
   unfolding badFrom
@@ -25,10 +29,15 @@ module _ (k : ℕ) (s : List ℕ) (h : 1 ≤ k) (h′ : k ≤ sheetLines) where
   unfolding badFrom
   bad-on e = let n : suc sheetLines - k ≡ suc (suc sheetLines - suc k) = omega arith in rw (n, e, add-one)
 
--- after the last line: nothing is optional
-pub bad-end : (k : ℕ) (s : List ℕ) → badFrom 0 k s ≡ cond (ltb (startOf k s) (length s)) k 0
-unfolding badFrom badAfter optional
-bad-end k s = refl
+-- after the last line that must be there: a good pause is one line more, and what follows is bad where bytes stand there
+module _ (k : ℕ) (s : List ℕ) where
+  pub bad-paused : isPauseLine (fromLine k s) ≡ true → badFrom 0 k s ≡ cond (ltb (startOf (suc k) s) (length s)) (suc k) 0
+  unfolding badFrom badAfter optional isPauseLine
+  bad-paused e = rw e
+
+  pub bad-end : isPauseLine (fromLine k s) ≡ false → badFrom 0 k s ≡ cond (ltb (startOf k s) (length s)) k 0
+  unfolding badFrom badAfter optional isPauseLine
+  bad-end e = rw e
 
 -- a good line has its line feed
 pub is-ended : (r : Row) (s : List ℕ) → goodLine r s ≡ true → ended s ≡ true
@@ -76,10 +85,14 @@ pub sheet-over : belongs sheetLines ≡ false
 unfolding belongs
 sheet-over = refl
 
-pub after-more : (n : ℕ) → lineAfter (suc n) ≡ suc (lineAfter n)
+pub after-more : (p : Bool) (n : ℕ) → lineAfter p (suc n) ≡ suc (lineAfter p n)
 unfolding lineAfter
-after-more n = omega arith
+after-more p n = omega arith
 
-pub after-some : (n : ℕ) → lineAfter n ≡ 0 → ⊥
+pub after-pause : (n : ℕ) → lineAfter true n ≡ suc (lineAfter false n)
+unfolding lineAfter sizeWith
+after-pause n = omega arith
+
+pub after-some : (p : Bool) (n : ℕ) → lineAfter p n ≡ 0 → ⊥
 unfolding lineAfter
-after-some n e = omega arith
+after-some p n e = omega arith

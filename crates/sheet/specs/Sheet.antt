@@ -1,4 +1,5 @@
--- The personalisation sheet, 01 "The personalisation sheet" and 02 Ask 1: its lines, and the first bad one. Every definition is total. Assumes nothing.
+-- The personalisation sheet, 01 "The personalisation sheet", 02 Ask 1 and Ask 7: its lines, and the first bad one. Every definition is total. Assumes
+-- nothing.
 use Prim.Native.Nat.{ℕ, zero, suc, _+_}
 use mathlib.Core.Bool.{Bool, false, cond, _&&_}
 use mathlib.Core.List.{List, [], _∷_}
@@ -8,6 +9,8 @@ use Rattle.wire.specs.Wire.{joined, alike}
 use Rattle.text.specs.declared.Number.{Number}
 use Rattle.text.specs.declared.Number.the-variants.{Is, None}
 use Rattle.text.specs.Text.{ascii, isHex, isDigits, numberOf}
+use Rattle.card.specs.Layout.{mostPause}
+use Rattle.card.specs.Values.{u8}
 use Rattle.text.specs.Lines.{headTo, tailAfter, startOf, fromLine, ended, linesOf}
 
 -- VALUES. So many capital hex digits
@@ -43,6 +46,17 @@ flagOf v = cond (alike v (ascii "0")) 0 (cond (alike v (ascii "1")) 1 2)
 unfoldable pub isFlag : List ℕ → Bool
 isFlag v = leb (flagOf v) 1
 
+-- "0 to 60 seconds" (02 Ask 7), a number as `max` is; what is none is read as 0
+unfoldable pub pauseOf : List ℕ → ℕ
+pauseOf v = u8 (countOf (numberOf v))
+
+unfoldable pub upTo : ℕ → Number → Bool
+upTo most (Is n) = leb n most
+upTo most None = false
+
+unfoldable pub isPause : List ℕ → Bool
+isPause v = upTo mostPause (numberOf v)
+
 -- THE LINES in their order: the name, and the test of the value
 pub record Row : Type 0 where
   pub name : List ℕ
@@ -70,9 +84,12 @@ rows =
 abbrev pub sheetLines : ℕ
 sheetLines = 14
 
--- the lines that may follow them, in this order: today there are none
+-- the lines that may follow them, in this order
+abbrev pub pauseRow : Row
+pauseRow = record { name = ascii "pause"; good = isPause }
+
 unfoldable pub optional : List Row
-optional = []
+optional = pauseRow ∷ []
 
 -- line k, counted from 1; a line past the last takes no value
 unfoldable pub noRow : Row
@@ -96,12 +113,12 @@ valueIn s = tailAfter 9 (headTo 10 s)
 unfoldable pub goodLine : Row → List ℕ → Bool
 goodLine r s = ended s && goodRow r (nameIn s) (valueIn s)
 
--- AFTER THE LINES THAT MUST BE THERE, from line k on: an optional line that is there by its name must be good, one that is not is skipped; then the
--- line after them where bytes stand there, or 0
+-- AFTER THE LINES THAT MUST BE THERE, from line k on: an optional line is taken where it is good, else it is not there; then the line after them where
+-- bytes stand there, or 0
 unfoldable pub badAfter : List Row → ℕ → List ℕ → ℕ
 badAfter [] k s = cond (ltb (startOf k s) (length s)) k 0
 badAfter (r ∷ rs) k s =
-    cond (alike (nameIn (fromLine k s)) (r .name)) (cond (goodLine r (fromLine k s)) (badAfter rs (suc k) s) k) (badAfter rs k s)
+    cond (goodLine r (fromLine k s)) (badAfter rs (suc k) s) (badAfter rs k s)
 
 -- THE FIRST BAD LINE of n lines from line k on (a missing line is bad), and then of what follows them
 unfoldable pub badFrom : ℕ → ℕ → List ℕ → ℕ
@@ -111,17 +128,34 @@ badFrom (suc n) k s = cond (goodLine (rowOf k) (fromLine k s)) (badFrom n (suc k
 unfoldable pub firstBad : List ℕ → ℕ
 firstBad s = badFrom sheetLines 1 s
 
--- A FILE THAT BEGINS WITH A SHEET. After so many lines, the next one still belongs to it
+-- A FILE THAT BEGINS WITH A SHEET. After so many lines, the next one is still one that must be there
 unfoldable pub belongs : ℕ → Bool
 belongs n = ltb n sheetLines
 
+-- those lines of a file, and the lines after them
+unfoldable pub requiredIn : List ℕ → List ℕ
+requiredIn s = joined (take sheetLines (linesOf s))
+
+unfoldable pub afterRequired : List ℕ → List (List ℕ)
+afterRequired s = drop sheetLines (linesOf s)
+
+-- a pause stands behind them: line 15 is the sheet's where it is exactly that
+unfoldable pub isPauseLine : List ℕ → Bool
+isPauseLine s = goodLine pauseRow s
+
+unfoldable pub hasPause : List ℕ → Bool
+hasPause s = isPauseLine (fromLine (suc sheetLines) s)
+
+unfoldable pub sizeWith : Bool → ℕ
+sizeWith paused = sheetLines + cond paused 1 0
+
 -- the sheet in a file, and the lines after it
 unfoldable pub sheetIn : List ℕ → List ℕ
-sheetIn s = joined (take sheetLines (linesOf s))
+sheetIn s = joined (take (sizeWith (hasPause s)) (linesOf s))
 
 unfoldable pub afterSheet : List ℕ → List (List ℕ)
-afterSheet s = drop sheetLines (linesOf s)
+afterSheet s = drop (sizeWith (hasPause s)) (linesOf s)
 
--- the number in the file of the line that stands after the sheet and n lines more
-unfoldable pub lineAfter : ℕ → ℕ
-lineAfter n = sheetLines + suc n
+-- the number in the file of the line that stands after the sheet, with its pause or without, and n lines more
+unfoldable pub lineAfter : Bool → ℕ → ℕ
+lineAfter paused n = sizeWith paused + suc n

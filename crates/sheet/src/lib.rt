@@ -6,11 +6,13 @@ use text::lines;
 ghost use mathlib.Core.Path.{_≡_};
 ghost use mathlib.Core.Bool.{_&&_, cond};
 ghost use lib.Dec.{ltb};
+ghost use Prim.Native.Nat.{suc};
 ghost use Rattle.wire.specs.Wire.{alike};
-ghost use Rattle.sheet.specs.Sheet.{isHexOf, isCvc, curveOf, isCurve, countOf, maxOf, isMax, flagOf, isFlag};
-ghost use Rattle.sheet.specs.Sheet.{rowOf, goodRow, goodLine, firstBad, belongs, lineAfter};
+ghost use Rattle.text.specs.Lines.{startOf};
+ghost use Rattle.sheet.specs.Sheet.{isHexOf, isCvc, curveOf, isCurve, countOf, maxOf, isMax, flagOf, isFlag, pauseOf, upTo, isPause};
+ghost use Rattle.sheet.specs.Sheet.{sheetLines, rowOf, valueIn, goodRow, goodLine, badAfter, optional, firstBad, belongs, isPauseLine, hasPause, lineAfter};
 
-// The lines of a sheet.
+// The lines of a sheet that must be there. A pause may follow them.
 pub const LINES: u32 = 14;
 
 // The values: what each spells, and 0, 0 or 2 where it is none.
@@ -54,6 +56,22 @@ pub fn flag_of(v: &[u8]) -> u8
     2
 }
 
+// The pause, in seconds.
+pub fn pause_of(v: &[u8]) -> u8
+    ensures { λ r. ⌜ r ≡ pauseOf (now (v .entry)) ⌝ }
+{
+    (count_of(text::number_of(v)) % 256) as u8
+}
+
+fn is_up_to(most: u32, n: Number) -> bool
+    ensures { λ r. ⌜ r ≡ upTo most n ⌝ }
+{
+    match n {
+        Number::Is(x) => x <= most,
+        Number::None => false,
+    }
+}
+
 // A line of each kind: its name is the word, and its value is good.
 
 fn hex_row(name: &[u8], word: &[u8], value: &[u8], digits: usize) -> bool
@@ -86,6 +104,13 @@ fn flag_row(name: &[u8], word: &[u8], value: &[u8]) -> bool
     ensures { λ r. ⌜ r ≡ (alike (now (name .entry)) (now (word .entry)) && isFlag (now (value .entry))) ⌝ }
 {
     wire::both(wire::equal(name, word), flag_of(value) <= 1)
+}
+
+fn pause_row(name: &[u8], word: &[u8], value: &[u8]) -> bool
+    ensures { λ r. ⌜ r ≡ (alike (now (name .entry)) (now (word .entry)) && isPause (now (value .entry))) ⌝ }
+{
+    let good = is_up_to(Fixed::MOST_PAUSE as u32, text::number_of(value));
+    wire::both(wire::equal(name, word), good)
 }
 
 // The lines in their order.
@@ -121,6 +146,23 @@ fn good_line(line: u32, s: &[u8]) -> bool
     wire::both(lines::is_ended(s), good_row(line, name, value))
 }
 
+// Whether the text begins with a good pause line.
+pub fn is_pause_line(s: &[u8]) -> bool
+    ensures { λ r. ⌜ r ≡ isPauseLine (now (s .entry)) ⌝ }
+{
+    let all = lines::head_to(s, lines::LINE_FEED);
+    let name = lines::head_to(all, lines::TAB);
+    let value = lines::tail_after(all, lines::TAB);
+    wire::both(lines::is_ended(s), pause_row(name, b"pause", value))
+}
+
+// The pause of a line that begins with one.
+pub fn pause_in(s: &[u8]) -> u8
+    ensures { λ r. ⌜ r ≡ pauseOf (valueIn (now (s .entry))) ⌝ }
+{
+    pause_of(lines::tail_after(lines::head_to(s, lines::LINE_FEED), lines::TAB))
+}
+
 // What follows the last line: its number where bytes stand there.
 fn after_last(line: u32, at: usize, size: usize) -> u32
     ensures { λ r. ⌜ r ≡ cond (ltb at size) line 0 ⌝ }
@@ -129,6 +171,18 @@ fn after_last(line: u32, at: usize, size: usize) -> u32
         return line;
     }
     0
+}
+
+// What follows the lines that must be there, whose end is at `at`: a good pause is one line more.
+fn after_required(sheet: &[u8], at: usize) -> u32
+    requires { ⌜ at ≡ startOf (suc sheetLines) (now sheet) ⌝ }
+    ensures { λ r. ⌜ r ≡ badAfter optional (suc sheetLines) (now (sheet .entry)) ⌝ }
+{
+    let line = LINES + 1;
+    if is_pause_line(wire::rest(sheet, at)) {
+        return after_last(line + 1, lines::next_line(sheet, at), sheet.len());
+    }
+    after_last(line, at, sheet.len())
 }
 
 // The number of the first bad line, or of the line after the last where bytes stand there; 0 for a good sheet.
@@ -140,7 +194,7 @@ pub fn first_bad(sheet: &[u8]) -> u32
     let bad = loop {
         let line = good + 1;
         if LINES < line {
-            break after_last(line, at, sheet.len());
+            break after_required(sheet, at);
         }
         if !good_line(line, wire::rest(sheet, at)) {
             break line;
@@ -151,16 +205,27 @@ pub fn first_bad(sheet: &[u8]) -> u32
     bad
 }
 
-// Whether, after so many lines of a file that begins with a sheet, the next one still belongs to it.
+// Whether a pause stands behind the lines that must be there.
+pub fn has_pause(sheet: &[u8]) -> bool
+    ensures { λ r. ⌜ r ≡ hasPause (now (sheet .entry)) ⌝ }
+{
+    is_pause_line(wire::rest(sheet, lines::start_of(sheet, LINES + 1)))
+}
+
+// Whether, after so many lines of a file that begins with a sheet, the next one is still one that must be there.
 pub fn belongs(lines: u32) -> bool
     ensures { λ r. ⌜ r ≡ belongs lines ⌝ }
 {
     lines < LINES
 }
 
-// The number in the file of the line that stands after the sheet and so many lines more.
-pub fn line_after(more: u16) -> u32
-    ensures { λ r. ⌜ r ≡ lineAfter more ⌝ }
+// The number in the file of the line that stands after the sheet, with its pause or without, and so many lines more.
+pub fn line_after(paused: bool, more: u16) -> u32
+    ensures { λ r. ⌜ r ≡ lineAfter paused more ⌝ }
 {
-    LINES + more as u32 + 1
+    let line = LINES + more as u32 + 1;
+    if paused {
+        return line + 1;
+    }
+    line
 }

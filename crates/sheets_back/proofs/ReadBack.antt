@@ -2,74 +2,91 @@
 use Prim.Native.Nat.{ℕ, zero, suc, _+_, _*_, _≤_, _<_}
 use native.Mathlib.Omega.{arith}
 use native.Mathlib.Numerals.{add-one}
-use mathlib.Core.Path.{_≡_, refl, ap, _∙_}
+use mathlib.Core.Path.{_≡_, refl, sym, ap, _∙_}
 use mathlib.Core.Bool.{Bool, true, false, cond}
-use mathlib.Core.List.{List, [], _∷_, _++_}
+use mathlib.Core.List.{List, [], _∷_, _++_, append-assoc}
 use lib.ListN.{length, getD}
 use lib.Dec.{eqb}
-use borrow.Author.Tests.{le-leb, le-ltb, eq-eqb}
+use borrow.Author.Tests.{le-leb, le-ltb, eq-eqb, eqb-true}
 use Rattle.wire.specs.Wire.{alike, pad, Bytes}
 use Rattle.wire.proofs.Parts.{pad-whole}
+use Rattle.text.specs.declared.Number.{Number}
+use Rattle.text.specs.declared.Number.the-variants.{Is}
 use Rattle.text.specs.Text.{ascii, allOf, hexValue, isHexDigit, unhex, hexOf, isDigit, isDigits, fitting, numberOf, decimalOf}
-use Rattle.text.specs.Lines.{startOf, fromLine, lineOf}
+use Rattle.text.specs.Lines.{lengthTo, headTo, startOf, fromLine, lineOf, ended}
 use Rattle.text.proofs.Laws.{all-append, length-hexOf, unhex-hexOf, isHex-hexOf, isDigits-decimalOf, plainDecimal-decimalOf, decimal-decimalOf}
 use Rattle.text.proofs.LineLaws.{other, all-other, head-past, tail-past, ended-past, next-from, none-left}
 use Rattle.card.specs.declared.Card.{Card}
-use Rattle.card.specs.Values.{fresh}
-use Rattle.sheet.specs.Sheet.{isHexOf, isCvc, curveOf, isCurve, countOf, maxOf, isMax, flagOf, isFlag}
-use Rattle.sheet.specs.Sheet.{sheetLines, rowOf, goodRow, goodLine, badFrom, firstBad}
+use Rattle.card.specs.Layout.{mostPause}
+use Rattle.card.specs.Values.{u8, fresh}
+use Rattle.sheet.specs.Sheet.{isHexOf, isCvc, curveOf, isCurve, countOf, maxOf, isMax, flagOf, isFlag, pauseOf, upTo, isPause}
+use Rattle.sheet.specs.Sheet.{Row, sheetLines, pauseRow, rowOf, goodRow, valueIn, goodLine, badFrom, firstBad, isPauseLine}
 use Rattle.personalise.specs.Personalise.{valueOf, sheetCodes, sheetFixed, sheetFlags, sheetCard}
 use Rattle.wire.proofs.Laws.{alike-self}
-use Rattle.sheet.proofs.Laws.{bad-end}
-use Rattle.sheets_back.specs.Written.{textFrom, curveName, flagText, flagValues, values, sheetText, InRange}
+use Rattle.sheet.proofs.Laws.{bad-paused, bad-end}
+use Rattle.sheets_back.specs.Written.{textFrom, curveName, flagText, flagValues, values, pauseText, sheetText, InRange}
+use Rattle.sheets_back.proofs.Good.{pause-none}
 
--- A VALUE ON LINE k: good there, and it breaks no line; the line's name has no tab in it
-record Line (k : ℕ) (v : List ℕ) : Type 0 where
-  tab : allOf (other 9) (rowOf k .name) ≡ true
-  feed : allOf (other 10) (rowOf k .name) ≡ true
+-- A VALUE ON A LINE: good there, and it breaks no line; the line's name has no tab in it
+record Line (w : Row) (v : List ℕ) : Type 0 where
+  tab : allOf (other 9) (w .name) ≡ true
+  feed : allOf (other 10) (w .name) ≡ true
   whole : allOf (other 10) v ≡ true
-  good : rowOf k .good v ≡ true
+  good : w .good v ≡ true
 
 -- so the text that begins with it begins with a good line, and goes on after it
-record Read (k : ℕ) (s v : List ℕ) (vs : List (List ℕ)) : Type 0 where
-  fine : goodLine (rowOf k) (fromLine k s) ≡ true
+record Read (w : Row) (k : ℕ) (s v t : List ℕ) : Type 0 where
+  fine : goodLine w (fromLine k s) ≡ true
   value : valueOf k s ≡ v
-  rest : fromLine (k + 1) s ≡ textFrom (suc k) vs
+  rest : fromLine (suc k) s ≡ t
 
-read-line : (k : ℕ) (s v : List ℕ) (vs : List (List ℕ)) → 1 ≤ k → Line k v → fromLine k s ≡ textFrom k (v ∷ vs) → Read k s v vs
-unfolding textFrom allOf goodLine goodRow valueOf lineOf
-read-line k s v vs h x e =
-    let name = rowOf k .name in
-    let l = name ++ (9 ∷ v) in
-    let t = textFrom (suc k) vs in
-    let w : allOf (other 10) l ≡ true = all-append (other 10) name (9 ∷ v) (x .feed) (x .whole) in
+read-line : (w : Row) (k : ℕ) (s v t : List ℕ) → 1 ≤ k → Line w v → fromLine k s ≡ w .name ++ (9 ∷ v) ++ (10 ∷ t) → Read w k s v t
+unfolding allOf goodLine goodRow valueOf lineOf
+read-line w k s v t h x e =
+    let l = w .name ++ (9 ∷ v) in
+    let o : allOf (other 10) l ≡ true = all-append (other 10) (w .name) (9 ∷ v) (x .feed) (x .whole) in
     record {
-      fine = rw (e, ended-past l t w, head-past 10 l t w, head-past 9 name v (x .tab), tail-past 9 name v (x .tab), alike-self name, x .good);
-      value = rw (e, head-past 10 l t w) (tail-past 9 name v (x .tab));
-      rest = next-from k s l t h w e;
+      fine = rw (e, ended-past l t o, head-past 10 l t o, head-past 9 (w .name) v (x .tab), tail-past 9 (w .name) v (x .tab), alike-self (w .name), x .good);
+      value = rw (e, head-past 10 l t o) (tail-past 9 (w .name) v (x .tab));
+      rest = rw add-one at (next-from k s l t h o e);
     }
 
--- ALL LINES from line k on
+-- ALL LINES from line k on, and a text after them
 abbrev Lines : ℕ → List (List ℕ) → Type 0
 Lines k [] = Unit {0}
-Lines k (v ∷ vs) = Line k v × Lines (suc k) vs
+Lines k (v ∷ vs) = Line (rowOf k) v × Lines (suc k) vs
 
-all-good : (k : ℕ) (vs : List (List ℕ)) (s : List ℕ) → 1 ≤ k → Lines k vs → fromLine k s ≡ textFrom k vs → badFrom (length vs) k s ≡ 0
-unfolding textFrom badFrom
-all-good k [] s h x e = bad-end k s ∙ rw (le-ltb _ _ (none-left k s e))
-all-good k (v ∷ vs) s h x e =
-    let r = read-line k s v vs h (x .0) e in
-    let e₁ : fromLine (suc k) s ≡ textFrom (suc k) vs = rw add-one at (r .rest) in
-    rw (r .fine) (all-good (suc k) vs s (omega arith) (x .1) e₁)
+module _ (s p : List ℕ) where
+  first-read :
+      (k : ℕ) (v : List ℕ) (vs : List (List ℕ)) → 1 ≤ k → Line (rowOf k) v → fromLine k s ≡ textFrom k (v ∷ vs) ++ p
+      → Read (rowOf k) k s v (textFrom (suc k) vs ++ p)
+  unfolding textFrom
+  first-read k v vs h x e =
+      read-line (rowOf k) k s v (textFrom (suc k) vs ++ p) h x (e ∙ append-assoc (rowOf k .name ++ (9 ∷ v)) (10 ∷ textFrom (suc k) vs) p)
 
-value-at : (i k : ℕ) (vs : List (List ℕ)) (s : List ℕ) → 1 ≤ k → Lines k vs → fromLine k s ≡ textFrom k vs → i < length vs → valueOf (k + i) s ≡ getD vs i []
-value-at i k [] s h x e l = absurd (omega arith)
-value-at zero k (v ∷ vs) s h x e l = let z : k + 0 ≡ k = omega arith in rw z (read-line k s v vs h (x .0) e .value)
-value-at (suc i) k (v ∷ vs) s h x e l =
-    let r = read-line k s v vs h (x .0) e in
-    let e₁ : fromLine (suc k) s ≡ textFrom (suc k) vs = rw add-one at (r .rest) in
-    let z : k + suc i ≡ suc k + i = omega arith in
-    rw z (value-at i (suc k) vs s (omega arith) (x .1) e₁ (omega arith))
+  then-rest : (k : ℕ) (vs : List (List ℕ)) → 1 ≤ k → Lines k vs → fromLine k s ≡ textFrom k vs ++ p → fromLine (k + length vs) s ≡ p
+  unfolding textFrom
+  then-rest k [] h x e = let z : k + 0 ≡ k = omega arith in rw z e
+  then-rest k (v ∷ vs) h x e =
+      let z : k + suc (length vs) ≡ suc k + length vs = omega arith in
+      rw z (then-rest (suc k) vs (omega arith) (x .1) (first-read k v vs h (x .0) e .rest))
+
+  all-good :
+      (k : ℕ) (vs : List (List ℕ)) → 1 ≤ k → Lines k vs → fromLine k s ≡ textFrom k vs ++ p → badFrom 0 (k + length vs) s ≡ 0
+      → badFrom (length vs) k s ≡ 0
+  unfolding badFrom
+  all-good k [] h x e f = let z : k + 0 ≡ k = omega arith in rw z at f
+  all-good k (v ∷ vs) h x e f =
+      let r = first-read k v vs h (x .0) e in
+      let z : k + suc (length vs) ≡ suc k + length vs = omega arith in
+      rw (r .fine) (all-good (suc k) vs (omega arith) (x .1) (r .rest) (rw z at f))
+
+  value-at : (i k : ℕ) (vs : List (List ℕ)) → 1 ≤ k → Lines k vs → fromLine k s ≡ textFrom k vs ++ p → i < length vs → valueOf (k + i) s ≡ getD vs i []
+  value-at i k [] h x e l = absurd (omega arith)
+  value-at zero k (v ∷ vs) h x e l = let z : k + 0 ≡ k = omega arith in rw z (first-read k v vs h (x .0) e .value)
+  value-at (suc i) k (v ∷ vs) h x e l =
+      let z : k + suc i ≡ suc k + i = omega arith in
+      rw z (value-at i (suc k) vs (omega arith) (x .1) (first-read k v vs h (x .0) e .rest) (omega arith))
 
 -- EACH VALUE is good on its line
 hex-value : (n : ℕ) (b : List ℕ) → length b ≡ n → Bytes b → isHexOf (2 * n) (hexOf b) ≡ true
@@ -118,9 +135,13 @@ curve-whole n = go (eqb n 1)
     go true = refl
     go false = refl
 
+number-back : (n : ℕ) → n ≤ 4294967295 → numberOf (decimalOf n) ≡ Is n
+unfolding numberOf fitting
+number-back n h = rw (plainDecimal-decimalOf n, decimal-decimalOf n, le-leb _ _ h)
+
 max-back : (n : ℕ) → n ≤ 4294967295 → maxOf (decimalOf n) ≡ n
-unfolding maxOf numberOf fitting countOf
-max-back n h = rw (plainDecimal-decimalOf n, decimal-decimalOf n, le-leb _ _ h)
+unfolding maxOf countOf
+max-back n h = ap countOf (number-back n h)
 
 max-good : (n : ℕ) → 1 ≤ n → n ≤ 4294967295 → isMax (decimalOf n) ≡ true
 unfolding isMax
@@ -130,9 +151,40 @@ digits-whole : (v : List ℕ) → isDigits v ≡ true → allOf (other 10) v ≡
 unfolding isDigit
 digits-whole v h = all-other isDigit 10 refl v h
 
+-- THE PAUSE: its line is read back, and so is its absence
+pause-line : (n : ℕ) → n ≤ mostPause → Line pauseRow (decimalOf n)
+unfolding allOf isPause upTo
+pause-line n h =
+    record {
+      tab = refl;
+      feed = refl;
+      whole = digits-whole (decimalOf n) (isDigits-decimalOf n);
+      good = rw (number-back n (omega arith)) (le-leb _ _ h);
+    }
+
+pause-back : (n : ℕ) → n ≤ mostPause → pauseOf (decimalOf n) ≡ n
+unfolding pauseOf countOf
+pause-back n h = ap (λ (m : Number). u8 (countOf m)) (number-back n (omega arith)) ∙ omega arith
+
+module _ (k n : ℕ) (s : List ℕ) (h : 1 ≤ k) (l : n ≤ mostPause) (e : fromLine k s ≡ pauseText n) where
+  pause-read : (badFrom 0 k s ≡ 0) × (pauseOf (valueOf k s) ≡ n)
+  unfolding pauseText isPauseLine valueOf lineOf goodLine ended headTo lengthTo
+  pause-read = go (eqb n 0) refl e
+    where
+      go :
+          (b : Bool) → eqb n 0 ≡ b → fromLine k s ≡ cond b [] (pauseRow .name ++ (9 ∷ decimalOf n) ++ (10 ∷ []))
+          → (badFrom 0 k s ≡ 0) × (pauseOf (valueOf k s) ≡ n)
+      go true z e = (
+        bad-end k s (rw e) ∙ rw (le-ltb _ _ (none-left k s e)),
+        ap (λ (t : List ℕ). pauseOf (valueIn t)) e ∙ pause-none ∙ sym (eqb-true n 0 z),
+      )
+      go false z e =
+          let r = read-line pauseRow k s (decimalOf n) [] h (pause-line n l) e in
+          (bad-paused k s (r .fine) ∙ rw (le-ltb _ _ (none-left (suc k) s (r .rest))), ap pauseOf (r .value) ∙ pause-back n l)
+
 -- EVERY LINE of a card's sheet
 module _ (c : Card) (r : InRange c) where
-  seed-line : Line 14 (hexOf (c .face .front .fixed .seed))
+  seed-line : Line (rowOf 14) (hexOf (c .face .front .fixed .seed))
   unfolding rowOf allOf
   seed-line =
       let f = c .face .front .fixed in
@@ -144,19 +196,19 @@ module _ (c : Card) (r : InRange c) where
   later-lines =
       let g = c .face .front .flags in
       let x = r .flags in
-      let line7 : Line 7 (flagText (g .reusable)) =
+      let line7 : Line (rowOf 7) (flagText (g .reusable)) =
       record { tab = refl; feed = refl; whole = flag-whole (g .reusable) (x .reusable); good = flag-good (g .reusable) (x .reusable) } in
-      let line8 : Line 8 (flagText (g .usecvc)) =
+      let line8 : Line (rowOf 8) (flagText (g .usecvc)) =
       record { tab = refl; feed = refl; whole = flag-whole (g .usecvc) (x .usecvc); good = flag-good (g .usecvc) (x .usecvc) } in
-      let line9 : Line 9 (flagText (g .setpin1)) =
+      let line9 : Line (rowOf 9) (flagText (g .setpin1)) =
       record { tab = refl; feed = refl; whole = flag-whole (g .setpin1) (x .setpin1); good = flag-good (g .setpin1) (x .setpin1) } in
-      let line10 : Line 10 (flagText (g .setpin2)) =
+      let line10 : Line (rowOf 10) (flagText (g .setpin2)) =
       record { tab = refl; feed = refl; whole = flag-whole (g .setpin2) (x .setpin2); good = flag-good (g .setpin2) (x .setpin2) } in
-      let line11 : Line 11 (flagText (g .nopurge)) =
+      let line11 : Line (rowOf 11) (flagText (g .nopurge)) =
       record { tab = refl; feed = refl; whole = flag-whole (g .nopurge) (x .nopurge); good = flag-good (g .nopurge) (x .nopurge) } in
-      let line12 : Line 12 (flagText (g .replay)) =
+      let line12 : Line (rowOf 12) (flagText (g .replay)) =
       record { tab = refl; feed = refl; whole = flag-whole (g .replay) (x .replay); good = flag-good (g .replay) (x .replay) } in
-      let line13 : Line 13 (flagText (g .active)) =
+      let line13 : Line (rowOf 13) (flagText (g .active)) =
       record { tab = refl; feed = refl; whole = flag-whole (g .active) (x .active); good = flag-good (g .active) (x .active) } in
       (line7, (line8, (line9, (line10, (line11, (line12, (line13, (seed-line, tt))))))))
 
@@ -167,31 +219,39 @@ module _ (c : Card) (r : InRange c) where
       let k = c .codes in
       let x = r .fixed in
       let y = r .codes in
-      let line1 : Line 1 (hexOf (f .cid)) =
+      let line1 : Line (rowOf 1) (hexOf (f .cid)) =
       record { tab = refl; feed = refl; whole = hex-whole (f .cid) (x .cid-bytes); good = hex-value 8 (f .cid) (x .cid) (x .cid-bytes) } in
-      let line2 : Line 2 (hexOf (k .pin1)) =
+      let line2 : Line (rowOf 2) (hexOf (k .pin1)) =
       record { tab = refl; feed = refl; whole = hex-whole (k .pin1) (y .pin1-bytes); good = hex-value 32 (k .pin1) (y .pin1) (y .pin1-bytes) } in
-      let line3 : Line 3 (hexOf (k .pin2)) =
+      let line3 : Line (rowOf 3) (hexOf (k .pin2)) =
       record { tab = refl; feed = refl; whole = hex-whole (k .pin2) (y .pin2-bytes); good = hex-value 32 (k .pin2) (y .pin2) (y .pin2-bytes) } in
-      let line4 : Line 4 (f .cvc) = record { tab = refl; feed = refl; whole = digits-whole (f .cvc) (x .cvc-digits); good = rw (x .cvc, x .cvc-digits) } in
-      let line5 : Line 5 (curveName (f .curve)) =
+      let line4 : Line (rowOf 4) (f .cvc) = record { tab = refl; feed = refl; whole = digits-whole (f .cvc) (x .cvc-digits); good = rw (x .cvc, x .cvc-digits) } in
+      let line5 : Line (rowOf 5) (curveName (f .curve)) =
       record { tab = refl; feed = refl; whole = curve-whole (f .curve); good = curve-good (f .curve) (x .curve .0) (x .curve .1) } in
       let w = digits-whole (decimalOf (f .max)) (isDigits-decimalOf (f .max)) in
-      let line6 : Line 6 (decimalOf (f .max)) =
+      let line6 : Line (rowOf 6) (decimalOf (f .max)) =
       record { tab = refl; feed = refl; whole = w; good = max-good (f .max) (x .max .0) (x .max .1) } in
       (line1, (line2, (line3, (line4, (line5, (line6, later-lines))))))
 
-  starts : fromLine 1 (sheetText c) ≡ textFrom 1 (values c)
+  abbrev pauses : List ℕ
+  pauses = pauseText (c .face .front .fixed .pause)
+
+  starts : fromLine 1 (sheetText c) ≡ textFrom 1 (values c) ++ pauses
   unfolding fromLine startOf sheetText
   starts = refl
+
+  last-read : (badFrom 0 (suc sheetLines) (sheetText c) ≡ 0) × (pauseOf (valueOf (suc sheetLines) (sheetText c)) ≡ c .face .front .fixed .pause)
+  last-read =
+      pause-read (suc sheetLines) (c .face .front .fixed .pause) (sheetText c) (omega arith) (r .fixed .pause)
+      (then-rest (sheetText c) pauses 1 (values c) (omega arith) lines starts)
 
   -- THE SHEET IS GOOD
   pub written-good : firstBad (sheetText c) ≡ 0
   unfolding firstBad
-  written-good = all-good 1 (values c) (sheetText c) (omega arith) lines starts
+  written-good = all-good (sheetText c) pauses 1 (values c) (omega arith) lines starts (last-read .0)
 
   value : (i : ℕ) → i < sheetLines → valueOf (1 + i) (sheetText c) ≡ getD (values c) i []
-  value i h = value-at i 1 (values c) (sheetText c) (omega arith) lines starts h
+  value i h = value-at (sheetText c) pauses i 1 (values c) (omega arith) lines starts h
 
   fixed-back : sheetFixed (sheetText c) ≡ c .face .front .fixed
   unfolding sheetFixed
@@ -203,7 +263,7 @@ module _ (c : Card) (r : InRange c) where
       let curve = ap curveOf (value 4 (omega arith)) ∙ curve-back (f .curve) (x .curve .0) (x .curve .1) in
       let max = ap maxOf (value 5 (omega arith)) ∙ max-back (f .max) (x .max .1) in
       let seed = ap (λ (v : List ℕ). pad 16 (unhex v)) (value 13 (omega arith)) ∙ hex-back 16 (f .seed) (x .seed) (x .seed-bytes) in
-      λ i. record { cid = cid i; cvc = cvc i; curve = curve i; max = max i; seed = seed i }
+      λ i. record { cid = cid i; cvc = cvc i; curve = curve i; max = max i; seed = seed i; pause = last-read .1 i }
 
   codes-back : sheetCodes (sheetText c) ≡ c .codes
   unfolding sheetCodes

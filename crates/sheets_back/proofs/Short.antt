@@ -3,7 +3,7 @@ use Prim.Native.Nat.{ℕ, zero, suc, _+_, _-_, _*_, _^_, _≤_, _<_}
 use native.Mathlib.Omega.{arith}
 use native.Mathlib.Nat.{pow-suc}
 use native.Mathlib.Decide.{decLt}
-use mathlib.Core.Path.{_≡_, refl, ap}
+use mathlib.Core.Path.{_≡_, refl, sym, ap, _∙_}
 use mathlib.Core.Bool.{Bool, true, false, cond, not, _&&_, _||_}
 use mathlib.Core.List.{List, [], _∷_}
 use lib.ListN.{length, getD, length-take, length-drop}
@@ -12,10 +12,13 @@ use borrow.Author.Tests.{leb-true, eqb-true, eqb-false, ne-eqb, not-true}
 use Rattle.wire.specs.Wire.{alike}
 use Rattle.wire.proofs.Laws.{never, both-true, alike-same}
 use Rattle.text.specs.declared.Number.{Number}
+use Rattle.text.specs.declared.Number.the-variants.{Is, None}
 use Rattle.text.specs.Text.{ascii, allOf, isHex, isDigit, isDigits, decimalFrom, decimal, plainDecimal, fitting, numberOf}
 use Rattle.text.specs.Lines.{lengthTo, headTo, tailAfter, ended}
 use Rattle.text.proofs.Laws.{decimal-grows}
-use Rattle.sheet.specs.Sheet.{isHexOf, isCvc, curveOf, isCurve, countOf, maxOf, isMax, flagOf, isFlag, Row, rows, noRow, rowOf, goodRow, goodLine}
+use Rattle.card.specs.Layout.{mostPause}
+use Rattle.sheet.specs.Sheet.{isHexOf, isCvc, curveOf, isCurve, countOf, maxOf, isMax, flagOf, isFlag, upTo, isPause}
+use Rattle.sheet.specs.Sheet.{Row, rows, pauseRow, noRow, rowOf, goodRow, goodLine}
 
 -- VALUES
 hex-short : (n : ℕ) → n ≤ 64 → (v : List ℕ) → isHexOf n v ≡ true → length v ≤ 64
@@ -81,21 +84,26 @@ digits-few (d ∷ s) e h = go (decLt (length s) 10)
         above : 48 ≤ d → (d ≡ 48 → ⊥) → 49 ≤ d
         above p q = omega (arith, p, q)
 
-max-short : (v : List ℕ) → isMax v ≡ true → length v ≤ 64
-unfolding isMax maxOf countOf numberOf fitting
-max-short v e = go (plainDecimal v) (leb (decimal v) 4294967295) refl refl e
+-- a value of which a number is asked
+number-short : (t : Number → Bool) → t None ≡ false → (v : List ℕ) → t (numberOf v) ≡ true → length v ≤ 64
+unfolding numberOf fitting
+number-short t n v e = go (plainDecimal v) (leb (decimal v) 4294967295) refl refl e
   where
     go :
-        (a b : Bool) → plainDecimal v ≡ a → leb (decimal v) 4294967295 ≡ b
-        → leb 1 (countOf (cond a (cond b (Number.Is (decimal v)) Number.None) Number.None)) ≡ true → length v ≤ 64
+        (a b : Bool) → plainDecimal v ≡ a → leb (decimal v) 4294967295 ≡ b → t (cond a (cond b (Is (decimal v)) None) None) ≡ true
+        → length v ≤ 64
     go true true p q e = digits-few v p (leb-true (decimal v) 4294967295 q)
-    go true false p q e = absurd (never e)
-    go false b p q e = absurd (never e)
+    go true false p q e = absurd (never (sym n ∙ e))
+    go false b p q e = absurd (never (sym n ∙ e))
+
+max-short : (v : List ℕ) → isMax v ≡ true → length v ≤ 64
+unfolding isMax maxOf countOf
+max-short v e = number-short (λ n. leb 1 (countOf n)) refl v e
 
 -- EVERY ROW
-record Short (r : Row) : Type 0 where
-  name : length (r .name) ≤ 8
-  value : (v : List ℕ) → r .good v ≡ true → length v ≤ 64
+pub record Short (r : Row) : Type 0 where
+  pub name : length (r .name) ≤ 8
+  pub value : (v : List ℕ) → r .good v ≡ true → length v ≤ 64
 
 abbrev AllShort : List Row → Type 0
 AllShort [] = Unit {0}
@@ -155,9 +163,13 @@ rows-short = (
   ),
 )
 
-row-short : (k : ℕ) → Short (rowOf k)
+pub row-short : (k : ℕ) → Short (rowOf k)
 unfolding rowOf
 row-short k = all-short (noRow ∷ rows) rows-short k
+
+pub pause-short : Short pauseRow
+unfolding isPause upTo
+pause-short = record { name = omega arith; value = number-short (upTo mostPause) refl }
 
 -- what stands before the first c, it, and what stands after it
 in-parts : (c : ℕ) (l : List ℕ) → length l ≤ length (headTo c l) + 1 + length (tailAfter c l)
@@ -165,11 +177,11 @@ unfolding headTo tailAfter
 in-parts c l = omega (arith, length-take (lengthTo c l) l, length-drop (lengthTo c l + 1) l)
 
 -- A GOOD LINE, without its line feed
-pub good-short : (k : ℕ) (t : List ℕ) → goodLine (rowOf k) t ≡ true → length (headTo 10 t) ≤ 73
+pub good-short : (r : Row) → Short r → (t : List ℕ) → goodLine r t ≡ true → length (headTo 10 t) ≤ 73
 unfolding goodLine goodRow
-good-short k t e =
+good-short r x t e =
     let l = headTo 10 t in
     let v = tailAfter 9 l in
-    let f = both-true (ended t) (alike (headTo 9 l) (rowOf k .name) && rowOf k .good v) e .1 in
-    let g = both-true (alike (headTo 9 l) (rowOf k .name)) (rowOf k .good v) f in
-    omega (arith, in-parts 9 l, ap length (alike-same (headTo 9 l) (rowOf k .name) (g .0)), row-short k .name, row-short k .value v (g .1))
+    let f = both-true (ended t) (alike (headTo 9 l) (r .name) && r .good v) e .1 in
+    let g = both-true (alike (headTo 9 l) (r .name)) (r .good v) f in
+    omega (arith, in-parts 9 l, ap length (alike-same (headTo 9 l) (r .name) (g .0)), x .name, x .value v (g .1))

@@ -12,7 +12,7 @@ use Rattle.card.specs.declared.Codes.{Codes}
 use Rattle.card.specs.declared.Fixed.{Fixed}
 use Rattle.card.specs.declared.Flags.{Flags}
 use Rattle.card.specs.declared.Card.{Card}
-use Rattle.sheet.specs.Sheet.{rowOf}
+use Rattle.sheet.specs.Sheet.{rowOf, pauseRow}
 use Rattle.personalise.specs.Personalise.{valueOf}
 
 -- lines from line k on, with these values: each name, tab, value, line feed
@@ -54,9 +54,13 @@ values c =
     ∷ flagValues (c .face .front .flags)
     ++ (hexOf (c .face .front .fixed .seed) ∷ [])
 
+-- the line of a pause, which is there exactly where the pause is not 0
+unfoldable pub pauseText : ℕ → List ℕ
+pauseText n = cond (eqb n 0) [] (pauseRow .name ++ (9 ∷ decimalOf n) ++ (10 ∷ []))
+
 -- THE SHEET of a card
 unfoldable pub sheetText : Card → List ℕ
-sheetText c = textFrom 1 (values c)
+sheetText c = textFrom 1 (values c) ++ pauseText (c .face .front .fixed .pause)
 
 -- "every value is in its range": the cards that a sheet can describe
 pub record FixedInRange (x : Fixed) : Type 0 where
@@ -68,6 +72,7 @@ pub record FixedInRange (x : Fixed) : Type 0 where
   pub max : (1 ≤ x .max) × (x .max ≤ 4294967295)
   pub seed : length (x .seed) ≡ 16
   pub seed-bytes : Bytes (x .seed)
+  pub pause : x .pause ≤ 60
 
 pub record CodesInRange (x : Codes) : Type 0 where
   pub pin1 : length (x .pin1) ≡ 32

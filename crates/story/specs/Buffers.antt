@@ -6,7 +6,7 @@ use mathlib.Core.Bool.{cond}
 use lib.ListN.{take}
 use lib.Dec.{eqb}
 use Rattle.card.specs.Layout.{imageSize}
-use Rattle.manual.specs.Settle.{Posed, Settled}
+use Rattle.manual.specs.Settle.{Posed, Settled, Off}
 
 abbrev pub questions : Posed → List ℕ
 questions x = cond (eqb (x .result .number) 0) (take (x .result .length) (x .questions)) []
@@ -16,3 +16,7 @@ response x = cond (eqb (x .result .number) 0) (take (x .result .length) (x .resp
 
 abbrev pub image : List ℕ → Settled → List ℕ
 image m x = cond (eqb (x .result .number) 0) (take imageSize (x .next)) m
+
+-- after a power-off
+abbrev pub imageOff : List ℕ → Off → List ℕ
+imageOff m x = cond (eqb (x .result .number) 0) (take imageSize (x .next)) m

@@ -134,6 +134,22 @@ fn settle(img: &mut [u8], request: &[u8], draw: &[u8], answers: &[u8], s: State)
     renewed(o, &next, img, s)
 }
 
+// The same of a power-off, which has neither a draw nor a response.
+fn off_within(img: &[u8], next: &mut [u8], size: usize) -> Outcome {
+    if size <= next.len() {
+        return practice::power_off(img, &mut next[..size]);
+    }
+    practice::power_off(img, next)
+}
+
+fn off_line(img: &mut [u8], s: State) -> State {
+    let mut next = [print::FILL; 8192];
+    let old = wire::part(img, 0, s.image);
+    let o = off_within(old, &mut next, s.next);
+    print::powered_off(o, old, &next);
+    renewed(o, &next, img, s)
+}
+
 fn settle_line(line: &[u8], img: &mut [u8], s: State) -> State {
     let mut bytes = [0u8; 8192];
     let a = text::unhex(first(line), &mut bytes, 0);
@@ -164,6 +180,9 @@ fn run_line(line: &[u8], img: &mut [u8], s: State) -> State {
         }
         b'S' => {
             return settle_line(line, img, s);
+        }
+        b'O' => {
+            return off_line(img, s);
         }
         _ => {
             print::same(line);

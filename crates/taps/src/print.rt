@@ -154,3 +154,10 @@ pub fn settled(o: Outcome, old: &[u8], response: &[u8], next: &[u8]) {
     let c = put_next(&mut out, b, o, old, next);
     finish(&out, c, clean(o, response, next));
 }
+
+pub fn powered_off(o: Outcome, old: &[u8], next: &[u8]) {
+    let mut out = [0u8; 16384];
+    let a = put_outcome(&mut out, b'O', o);
+    let b = put_next(&mut out, a, o, old, next);
+    finish(&out, b, untouched(next, written(o, IMAGE_SIZE)));
+}

@@ -7,8 +7,8 @@ use mathlib.Core.List.{List, [], _∷_, _++_}
 use mathlib.Core.Bool.{Bool, true, false, cond, not}
 use lib.ListN.{length, take, drop, getD, length-append, length-take, length-drop, take-append-drop, drop-of-length-le}
 use lib.Seq.{length-take-le, drop-cons, take-at, drop-drop, drop-append-add}
-use lib.Dec.{eqb}
-use borrow.Author.Tests.{lt-ltb, ltb-true, eq-eqb, ne-eqb, eqb-true, not-true}
+use lib.Dec.{ltb, eqb}
+use borrow.Author.Tests.{lt-ltb, ltb-true, ltb-false, eq-eqb, ne-eqb, eqb-true, not-true}
 use Rattle.wire.specs.Wire.{joined}
 use Rattle.wire.proofs.Laws.{by-cases, never, both-true}
 use Rattle.text.specs.Text.{allOf}
@@ -137,15 +137,17 @@ ended-within s e =
     let l : length (take (lengthTo 10 s) s) ≡ lengthTo 10 s = length-take-le (lengthTo 10 s) s (length-to-within 10 s) in
     omega (arith, l, ltb-true (length (take (lengthTo 10 s) s)) (length s) e)
 
--- the text after a line that has its line feed
-pub next-is-tail : (k : ℕ) (s : List ℕ) → 1 ≤ k → ended (fromLine k s) ≡ true → tailAfter 10 (fromLine k s) ≡ fromLine (k + 1) s
-unfolding fromLine nextLine tailAfter
-next-is-tail k s h e =
-    let at = startOf k s in
+-- the text after a line
+pub next-is-tail : (k : ℕ) (s : List ℕ) → 1 ≤ k → tailAfter 10 (fromLine k s) ≡ fromLine (suc k) s
+unfolding fromLine startOf nextLine tailAfter lengthTo
+next-is-tail zero s h = absurd (omega arith)
+next-is-tail (suc k) s h =
+    let at = startOf (suc k) s in
     let n = lengthTo 10 (drop at s) in
-    let i : at < length s = omega (arith, ended-within (drop at s) e, length-drop at s) in
-    let z : at + n + 1 ≡ at + (n + 1) = omega arith in
-    rw (start-next k s h, lt-ltb _ _ i, z) (drop-drop (n + 1) at s)
+    let z : at + (n + 1) ≡ at + n + 1 = omega arith in
+    by-cases (λ (i : ℕ). drop (n + 1) (drop at s) ≡ drop i s) (ltb at (length s)) {x = at + n + 1} {y = at}
+    (λ _. drop-drop (n + 1) at s ∙ ap (λ (i : ℕ). drop i s) z)
+    (λ e. let o : drop at s ≡ [] = drop-of-length-le s (ltb-false at (length s) e) in rw o)
 
 -- WHAT STANDS AFTER the first c, by the first element
 module _ (c b : ℕ) (l : List ℕ) where

@@ -12,6 +12,7 @@ use Rattle.wire.proofs.give64 as give64
 use Rattle.wire.proofs.give65 as give65
 use Rattle.wire.proofs.give512 as give512
 use Rattle.wire.proofs.give640 as give640
+use Rattle.wire.proofs.give1024 as give1024
 use Rattle.wire.proofs.put_padded as put-padded
 use Rattle.wire.proofs.put_bytes as put-bytes
 use Rattle.wire.proofs.put8 as put8
@@ -55,6 +56,9 @@ give512-one M 𝓤 H A m r κs a g z z′ ws ws′ = plain 𝓤 (λ p q. let e =
 
 pub give640-one : OneOutcome give640.ended (λ M. give640.clauses {M = M})
 give640-one M 𝓤 H A m r κs a g z z′ ws ws′ = plain 𝓤 (λ p q. let e = one-write (p .0) (q .0) in (e .1, λ i. (e .0 i, (tt, (tt, tt)))))
+
+pub give1024-one : OneOutcome give1024.ended (λ M. give1024.clauses {M = M})
+give1024-one M 𝓤 H A m r κs a g z z′ ws ws′ = plain 𝓤 (λ p q. let e = one-write (p .0) (q .0) in (e .1, λ i. (e .0 i, (tt, (tt, tt)))))
 
 pub put-padded-one : OneOutcome put-padded.ended (λ M. put-padded.clauses {M = M})
 put-padded-one M 𝓤 H A m r κs a g z z′ ws ws′ = plain 𝓤 (λ p q. let e = one-write p q in (e .1, λ i. (e .0 i, (tt, (tt, (tt, tt))))))

@@ -323,3 +323,9 @@ pub fn give640(out: &mut [u8], at: usize, a: [u8; 640]) -> usize
 {
     put_bytes(out, at, &a)
 }
+
+pub fn give1024(out: &mut [u8], at: usize, a: [u8; 1024]) -> usize
+    ensures { λ r. ⌜ (Wrote (now (out .entry)) at a (now (out .exit)) r) × (length a ≡ 1024) ⌝ }
+{
+    put_bytes(out, at, &a)
+}

@@ -12,6 +12,7 @@ use Rattle.card.specs.declared.Fixed.{Fixed}
 use Rattle.card.specs.declared.Key.{Key}
 use Rattle.card.specs.declared.Block.{Block}
 use Rattle.card.specs.declared.Issuer.{Issuer}
+use Rattle.card.specs.declared.Pending.{Pending}
 use Rattle.card.specs.declared.Last.{Last}
 use Rattle.card.specs.declared.Front.{Front}
 use Rattle.card.specs.declared.Held.{Held}
@@ -22,12 +23,13 @@ use Rattle.card.proofs.Fixed as fixed
 use Rattle.card.proofs.Key as key
 use Rattle.card.proofs.Block as block
 use Rattle.card.proofs.Issuer as issuer
+use Rattle.card.proofs.Pending as pending
 use Rattle.card.proofs.Last as last
 use Rattle.card.proofs.Front as front
 use Rattle.card.proofs.Held as held
 use Rattle.card.proofs.Face as face
 use Rattle.card.proofs.Card as card
-use Rattle.card.specs.Layout.{pinSize, cidSize, cvcSize, seedSize, keyRoom, dataRoom, signatureSize, lastRoom}
+use Rattle.card.specs.Layout.{pinSize, cidSize, cvcSize, seedSize, keyRoom, dataRoom, signatureSize, heldRoom, lastRoom}
 use Rattle.card.specs.Shape.{ShapeCodes, ShapeFixed, ShapeIssuer, ShapeFront, ShapeHeld, ShapeFace, Shape}
 
 codes-held : (x : Codes) (vs : List Val) → Is (row codes.the-type) x vs → ShapeCodes x
@@ -55,6 +57,9 @@ issuer-held x vs g =
     let f = g .1 .1 in
     record { block = block-held (x .block) _ (f .0); signature = length-unmapped ℕ (x .signature) signatureSize (f .1 .0 .1 .0 .1) }
 
+pending-held : (x : Pending) (vs : List Val) → Is (row pending.the-type) x vs → length (x .request) ≡ heldRoom
+pending-held x vs g = length-unmapped ℕ (x .request) heldRoom (g .1 .1 .1 .0 .1 .0 .1)
+
 last-held : (x : Last) (vs : List Val) → Is (row last.the-type) x vs → length (x .signatures) ≡ lastRoom
 last-held x vs g = length-unmapped ℕ (x .signatures) lastRoom (g .1 .1 .1 .0 .1 .0 .1)
 
@@ -71,7 +76,12 @@ held-held x vs g =
 face-held : (x : Face) (vs : List Val) → Is (row face.the-type) x vs → ShapeFace x
 face-held x vs g =
     let f = g .1 .1 in
-    record { front = front-held (x .front) _ (f .0); held = held-held (x .held) _ (f .1 .0); last = last-held (x .last) _ (f .1 .1 .0) }
+    record {
+      front = front-held (x .front) _ (f .0);
+      held = held-held (x .held) _ (f .1 .0);
+      pending = pending-held (x .pending) _ (f .1 .1 .0);
+      last = last-held (x .last) _ (f .1 .1 .1 .0);
+    }
 
 pub card-held : (c : Card) (vs : List Val) → Is (row card.the-type) c vs → Shape c
 card-held c vs g =

@@ -10,6 +10,8 @@ use Rattle.writing.proofs.anew.key as anew-key
 use Rattle.writing.proofs.anew.counters as anew-counters
 use Rattle.writing.proofs.anew.user as anew-user
 use Rattle.writing.proofs.anew.protected as anew-protected
+use Rattle.writing.proofs.anew.pause as anew-pause
+use Rattle.writing.proofs.anew.pending as anew-pending
 use Rattle.writing.proofs.anew.last as anew-last
 
 pub write-one : OneOutcome write.ended (λ M. write.clauses {M = M})
@@ -38,6 +40,12 @@ anew-user-one M 𝓤 H A m r κs a g z z′ ws ws′ = plain 𝓤 (λ p q. let e
 
 pub anew-protected-one : OneOutcome anew-protected.ended (λ M. anew-protected.clauses {M = M})
 anew-protected-one M 𝓤 H A m r κs a g z z′ ws ws′ = plain 𝓤 (λ p q. let e = one-write p q in (e .1, λ i. (e .0 i, (tt, tt))))
+
+pub anew-pause-one : OneOutcome anew-pause.ended (λ M. anew-pause.clauses {M = M})
+anew-pause-one M 𝓤 H A m r κs a g z z′ ws ws′ = plain 𝓤 (λ p q. let e = one-write p q in (e .1, λ i. (e .0 i, (tt, tt))))
+
+pub anew-pending-one : OneOutcome anew-pending.ended (λ M. anew-pending.clauses {M = M})
+anew-pending-one M 𝓤 H A m r κs a g z z′ ws ws′ = plain 𝓤 (λ p q. let e = one-write p q in (e .1, λ i. (e .0 i, (tt, (tt, tt)))))
 
 pub anew-last-one : OneOutcome anew-last.ended (λ M. anew-last.clauses {M = M})
 anew-last-one M 𝓤 H A m r κs a g z z′ ws ws′ = plain 𝓤 (λ p q. let e = one-write p q in (e .1, λ i. (e .0 i, (tt, tt))))

@@ -1,33 +1,36 @@
 -- A GROUP WRITTEN ANEW: bytes that hold the image of a card hold, after a write of one group at its place, that of the card with this group anew.
 -- Assumes nothing.
-use Prim.Native.Nat.{ℕ, zero, suc, _+_, _≤_, _<_}
+use Prim.Native.Nat.{ℕ, zero, suc, _+_, _-_, _≤_, _<_}
 use native.Mathlib.Omega.{arith}
 use mathlib.Core.Path.{_≡_, refl, sym, ap, ap₂, _∙_}
 use mathlib.Core.List.{List, [], _∷_, _++_, append-assoc, append-nil}
 use lib.ListN.{length, take, drop, getD, length-append, take-append-drop}
 use lib.Seq.{take-at, drop-at, drop-cons}
 use lib.Dec.{lit<}
-use Rattle.wire.specs.Wire.{put, pad, Wrote, joined}
+use Rattle.wire.specs.Wire.{be1, be4, put, pad, Wrote, joined}
 use Rattle.wire.proofs.Laws.{runs, joined-append}
+use Rattle.card.specs.declared.Fixed.{Fixed}
 use Rattle.card.specs.declared.Flags.{Flags}
 use Rattle.card.specs.declared.Wallet.{Wallet}
 use Rattle.card.specs.declared.Counters.{Counters}
+use Rattle.card.specs.declared.Wait.{Wait}
 use Rattle.card.specs.declared.Front.{Front}
 use Rattle.card.specs.declared.Held.{Held}
 use Rattle.card.specs.declared.Face.{Face}
 use Rattle.card.specs.declared.Card.{Card}
-use Rattle.card.specs.Layout.{pinSize, codesAt, flagsAt, walletAt, keyAt, countersAt, userAt, protectedAt, issuerAt, lastAt}
-use Rattle.card.specs.Layout.{codesWidth, fixedWidth, flagsWidth, walletWidth, keyWidth, countersWidth, blockWidth, issuerWidth, lastWidth}
-use Rattle.card.specs.Values.{heldKey, heldBlock, heldIssuer, heldLast, faced}
-use Rattle.card.specs.Values.{withFlags, withWallet, withKey, withCounters, withUser, withProtected, withIssuer, withLast}
-use Rattle.card.specs.Image.{encCodes, encFixed, encFlags, encWallet, encKey, encCounters, encBlock, encIssuer, encLast, encFront, encHeld, encFace, encode}
-use Rattle.card.specs.Shape.{ShapeFace, Shape}
+use Rattle.card.specs.Layout.{pinSize, codesAt, fixedAt, pauseAt, flagsAt, walletAt, keyAt, countersAt, userAt, protectedAt, issuerAt, pendingAt, lastAt}
+use Rattle.card.specs.Layout.{codesWidth, flagsWidth, walletWidth, keyWidth, countersWidth, blockWidth, issuerWidth, pendingWidth, lastWidth}
+use Rattle.card.specs.Values.{heldKey, heldBlock, heldIssuer, heldRequest, heldLast, faced}
+use Rattle.card.specs.Values.{withPause, withFlags, withWallet, withKey, withCounters, withUser, withProtected, withIssuer, withPending, withLast}
+use Rattle.card.specs.Image.{encCodes, encFixed, encFlags, encWallet, encKey, encCounters, encBlock, encIssuer, encPending, encLast}
+use Rattle.card.specs.Image.{encFront, encHeld, encFace, encode}
+use Rattle.card.specs.Shape.{ShapeFixed, ShapeFace, Shape}
 use Rattle.writing.specs.Holds.{Holds}
-use Rattle.cards.proofs.Shape.{long-codes, long-fixed, long-flags, long-wallet, long-key, long-counters, long-block, long-issuer, long-last}
-use Rattle.cards.proofs.Shape.{held-codes-long, held-key-long, held-block-long, held-issuer-long, held-last-long}
-use Rattle.cards.proofs.Shape.{held-codes-wide, held-key-wide, held-block-wide, held-issuer-wide, held-last-wide}
-use Rattle.cards.proofs.Shape.{shape-with-flags, shape-with-wallet, shape-with-key, shape-with-counters, shape-with-user, shape-with-protected}
-use Rattle.cards.proofs.Shape.{shape-with-issuer, shape-with-last}
+use Rattle.cards.proofs.Shape.{long-codes, long-flags, long-wallet, long-key, long-counters, long-block, long-issuer, long-pending, long-last}
+use Rattle.cards.proofs.Shape.{held-codes-long, held-key-long, held-block-long, held-issuer-long, held-request-long, held-last-long}
+use Rattle.cards.proofs.Shape.{held-codes-wide, held-key-wide, held-block-wide, held-issuer-wide, held-request-wide, held-last-wide}
+use Rattle.cards.proofs.Shape.{shape-with-pause, shape-with-flags, shape-with-wallet, shape-with-key, shape-with-counters, shape-with-user}
+use Rattle.cards.proofs.Shape.{shape-with-protected, shape-with-issuer, shape-with-pending, shape-with-last}
 
 -- A SPLICE: a write over bytes of the same length changes them alone
 splice : (a b z v : List ℕ) → length b ≡ length v → put (a ++ b ++ z) (length a) v ≡ a ++ v ++ z
@@ -44,17 +47,26 @@ spliced {d} {v} {at = at} a b z w e l k =
     let h : at + length v ≤ length d = omega arith in
     runs w h .bytes ∙ ap₂ (λ x m. put x m v) e (sym l) ∙ splice a b z v k
 
+-- what is fixed, but for the pause at its end, which is a group of its own here
+abbrev unpaused : Fixed → List ℕ
+unpaused x = x .cid ++ x .cvc ++ be1 (x .curve) ++ be4 (x .max) ++ x .seed
+
+long-unpaused : (x : Fixed) → ShapeFixed x → length (unpaused x) ≡ pauseAt - fixedAt
+long-unpaused x s = simp length-append (omega arith)
+
 -- THE GROUPS of an image, and how long they are
 abbrev groups : Card → List (List ℕ)
 groups c =
     let x : Front = c .face .front in
     let y : Held = c .face .held in
-    encCodes (c .codes) ∷ encFixed (x .fixed) ∷ encFlags (x .flags) ∷ encWallet (x .wallet) ∷ encKey (x .key) ∷ encCounters (x .counters)
-    ∷ encBlock (y .user) ∷ encBlock (y .protected) ∷ encIssuer (y .issuer) ∷ encLast (c .face .last) ∷ []
+    encCodes (c .codes) ∷ unpaused (x .fixed) ∷ be1 (x .fixed .pause) ∷ encFlags (x .flags) ∷ encWallet (x .wallet) ∷ encKey (x .key)
+    ∷ encCounters (x .counters) ∷ encBlock (y .user) ∷ encBlock (y .protected) ∷ encIssuer (y .issuer)
+    ∷ encPending (c .face .pending) ∷ encLast (c .face .last) ∷ []
 
 abbrev widths : List ℕ
 widths =
-    codesWidth ∷ fixedWidth ∷ flagsWidth ∷ walletWidth ∷ keyWidth ∷ countersWidth ∷ blockWidth ∷ blockWidth ∷ issuerWidth ∷ lastWidth ∷ []
+    codesWidth ∷ (pauseAt - fixedAt) ∷ 1 ∷ flagsWidth ∷ walletWidth ∷ keyWidth ∷ countersWidth
+    ∷ blockWidth ∷ blockWidth ∷ issuerWidth ∷ pendingWidth ∷ lastWidth ∷ []
 
 abbrev lengths : List (List ℕ) → List ℕ
 lengths [] = []
@@ -65,7 +77,7 @@ total [] = 0
 total (n ∷ ns) = n + total ns
 
 in-groups : (c : Card) → encode c ≡ joined (groups c)
-unfolding encode encFace encFront encHeld joined
+unfolding encode encFace encFront encFixed encHeld joined
 in-groups c = simp (append-assoc, append-nil)
 
 lengths-groups : (c : Card) → Shape c → lengths (groups c) ≡ widths
@@ -76,7 +88,8 @@ lengths-groups c s =
     let u = s .face .held in
     λ i.
     long-codes (c .codes) (s .codes) i
-    ∷ long-fixed (x .fixed) (t .fixed) i
+    ∷ long-unpaused (x .fixed) (t .fixed) i
+    ∷ 1
     ∷ long-flags (x .flags) i
     ∷ long-wallet (x .wallet) i
     ∷ long-key (x .key) (t .key) i
@@ -84,6 +97,7 @@ lengths-groups c s =
     ∷ long-block (y .user) (u .user) i
     ∷ long-block (y .protected) (u .protected) i
     ∷ long-issuer (y .issuer) (u .issuer) i
+    ∷ long-pending (c .face .pending) (s .face .pending) i
     ∷ long-last (c .face .last) (s .face .last) i
     ∷ []
 
@@ -140,29 +154,37 @@ module _ {c : Card} {rest d d′ : List ℕ} {r : ℕ} where
       → Holds (record { face = c .face; codes = record { pin1 = pad pinSize a; pin2 = pad pinSize b } }) rest d′
   anew-codes a b w x = turned 0 (lit< tt) _ (record { codes = held-codes-long a b; face = x .shape .face }) refl (held-codes-wide a b) w x
 
+  pub anew-pause : (n : ℕ) → Wrote d pauseAt (be1 n) d′ r → Holds c rest d → Holds (faced (withPause n (c .face)) c) rest d′
+  anew-pause n w x = refaced 2 (lit< tt) _ (shape-with-pause (c .face) (x .shape .face) n) refl refl w x
+
   pub anew-flags : (y : Flags) → Wrote d flagsAt (encFlags y) d′ r → Holds c rest d → Holds (faced (withFlags y (c .face)) c) rest d′
-  anew-flags y w x = refaced 2 (lit< tt) _ (shape-with-flags (c .face) (x .shape .face) y) refl (long-flags y) w x
+  anew-flags y w x = refaced 3 (lit< tt) _ (shape-with-flags (c .face) (x .shape .face) y) refl (long-flags y) w x
 
   pub anew-wallet : (y : Wallet) → Wrote d walletAt (encWallet y) d′ r → Holds c rest d → Holds (faced (withWallet y (c .face)) c) rest d′
-  anew-wallet y w x = refaced 3 (lit< tt) _ (shape-with-wallet (c .face) (x .shape .face) y) refl (long-wallet y) w x
+  anew-wallet y w x = refaced 4 (lit< tt) _ (shape-with-wallet (c .face) (x .shape .face) y) refl (long-wallet y) w x
 
   pub anew-key : (k : List ℕ) → Wrote d keyAt (encKey (heldKey k)) d′ r → Holds c rest d → Holds (faced (withKey (heldKey k) (c .face)) c) rest d′
-  anew-key k w x = refaced 4 (lit< tt) _ (shape-with-key (c .face) (x .shape .face) _ (held-key-long k)) refl (held-key-wide k) w x
+  anew-key k w x = refaced 5 (lit< tt) _ (shape-with-key (c .face) (x .shape .face) _ (held-key-long k)) refl (held-key-wide k) w x
 
   pub anew-counters : (y : Counters) → Wrote d countersAt (encCounters y) d′ r → Holds c rest d → Holds (faced (withCounters y (c .face)) c) rest d′
-  anew-counters y w x = refaced 5 (lit< tt) _ (shape-with-counters (c .face) (x .shape .face) y) refl (long-counters y) w x
+  anew-counters y w x = refaced 6 (lit< tt) _ (shape-with-counters (c .face) (x .shape .face) y) refl (long-counters y) w x
 
   pub anew-user : (b : List ℕ) → Wrote d userAt (encBlock (heldBlock b)) d′ r → Holds c rest d → Holds (faced (withUser (heldBlock b) (c .face)) c) rest d′
-  anew-user b w x = refaced 6 (lit< tt) _ (shape-with-user (c .face) (x .shape .face) _ (held-block-long b)) refl (held-block-wide b) w x
+  anew-user b w x = refaced 7 (lit< tt) _ (shape-with-user (c .face) (x .shape .face) _ (held-block-long b)) refl (held-block-wide b) w x
 
   pub anew-protected :
       (b : List ℕ) → Wrote d protectedAt (encBlock (heldBlock b)) d′ r → Holds c rest d → Holds (faced (withProtected (heldBlock b) (c .face)) c) rest d′
-  anew-protected b w x = refaced 7 (lit< tt) _ (shape-with-protected (c .face) (x .shape .face) _ (held-block-long b)) refl (held-block-wide b) w x
+  anew-protected b w x = refaced 8 (lit< tt) _ (shape-with-protected (c .face) (x .shape .face) _ (held-block-long b)) refl (held-block-wide b) w x
 
   pub anew-issuer :
       (b s : List ℕ) (n : ℕ) → Wrote d issuerAt (encIssuer (heldIssuer b s n)) d′ r → Holds c rest d
       → Holds (faced (withIssuer (heldIssuer b s n) (c .face)) c) rest d′
-  anew-issuer b s n w x = refaced 8 (lit< tt) _ (shape-with-issuer (c .face) (x .shape .face) _ (held-issuer-long b s n)) refl (held-issuer-wide b s n) w x
+  anew-issuer b s n w x = refaced 9 (lit< tt) _ (shape-with-issuer (c .face) (x .shape .face) _ (held-issuer-long b s n)) refl (held-issuer-wide b s n) w x
+
+  pub anew-pending :
+      (y : Wait) (q : List ℕ) → Wrote d pendingAt (encPending (heldRequest y q)) d′ r → Holds c rest d
+      → Holds (faced (withPending (heldRequest y q) (c .face)) c) rest d′
+  anew-pending y q w x = refaced 10 (lit< tt) _ (shape-with-pending (c .face) (x .shape .face) _ (held-request-long y q)) refl (held-request-wide y q) w x
 
   pub anew-last : (s : List ℕ) → Wrote d lastAt (encLast (heldLast s)) d′ r → Holds c rest d → Holds (faced (withLast (heldLast s) (c .face)) c) rest d′
-  anew-last s w x = refaced 9 (lit< tt) _ (shape-with-last (c .face) (x .shape .face) _ (held-last-long s)) refl (held-last-wide s) w x
+  anew-last s w x = refaced 11 (lit< tt) _ (shape-with-last (c .face) (x .shape .face) _ (held-last-long s)) refl (held-last-wide s) w x

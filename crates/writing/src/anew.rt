@@ -5,13 +5,15 @@ use card::Counters;
 use card::Flags;
 use card::Key;
 use card::Last;
+use card::Pending;
+use card::Wait;
 use card::Wallet;
 use card::layout;
 ghost use mathlib.Core.List.{_++_};
 ghost use Rattle.wire.specs.Wire.{be1, pad, Runs, Wrote};
-ghost use Rattle.card.specs.Layout.{pinSize, codesAt, flagsAt, walletAt, keyAt, countersAt, userAt, protectedAt, issuerAt, lastAt};
-ghost use Rattle.card.specs.Values.{heldKey, heldBlock, heldIssuer, heldLast};
-ghost use Rattle.card.specs.Image.{encCodes, encFlags, encWallet, encKey, encCounters, encBlock, encIssuer, encLast};
+ghost use Rattle.card.specs.Layout.{pinSize, codesAt, pauseAt, flagsAt, walletAt, keyAt, countersAt, userAt, protectedAt, issuerAt, pendingAt, lastAt};
+ghost use Rattle.card.specs.Values.{heldKey, heldBlock, heldIssuer, heldRequest, heldLast};
+ghost use Rattle.card.specs.Image.{encCodes, encFlags, encWallet, encKey, encCounters, encBlock, encIssuer, encPending, encLast};
 
 pub fn codes(img: &mut [u8], pin1: &[u8], pin2: &[u8]) -> usize
     ensures { λ r.
@@ -24,6 +26,16 @@ pub fn codes(img: &mut [u8], pin1: &[u8], pin2: &[u8]) -> usize
         return wire::put_padded(img, a, Codes::PIN_SIZE, pin2);
     }
     layout::CODES_AT
+}
+
+// The pause, in seconds, among what is fixed: a recording tells it behind the card.
+pub fn pause(img: &mut [u8], seconds: u8) -> usize
+    ensures { λ r. ⌜ Wrote (now (img .entry)) pauseAt (be1 seconds) (now (img .exit)) r ⌝ }
+{
+    if wire::has_room(img.len(), layout::PAUSE_AT, 1) {
+        return wire::put8(img, layout::PAUSE_AT, seconds);
+    }
+    layout::PAUSE_AT
 }
 
 pub fn flags(img: &mut [u8], x: Flags) -> usize
@@ -104,6 +116,17 @@ pub fn issuer(img: &mut [u8], held: &[u8], signature: &[u8], counter: u32) -> us
         return wire::put32(img, b, counter);
     }
     layout::ISSUER_AT
+}
+
+// The wait, and the bytes of the request that it holds.
+pub fn pending(img: &mut [u8], x: Wait, held: &[u8]) -> usize
+    ensures { λ r. ⌜ Wrote (now (img .entry)) pendingAt (encPending (heldRequest x (now (held .entry)))) (now (img .exit)) r ⌝ }
+{
+    if wire::has_room(img.len(), layout::PENDING_AT, layout::PENDING_WIDTH) {
+        let a = crate::whole::write_wait(x, img, layout::PENDING_AT);
+        return wire::put_padded(img, a, Pending::ROOM, held);
+    }
+    layout::PENDING_AT
 }
 
 pub fn last(img: &mut [u8], signatures: &[u8]) -> usize

@@ -10,13 +10,15 @@ use card::Held;
 use card::Issuer;
 use card::Key;
 use card::Last;
+use card::Pending;
+use card::Wait;
 use card::Wallet;
 ghost use mathlib.Core.Path.{_≡_};
 ghost use Prim.Native.Nat.{_+_, _-_};
 ghost use lib.ListN.{length};
 ghost use Rattle.wire.specs.Wire.{Runs};
-ghost use Rattle.card.specs.Layout.{codesWidth, fixedWidth, flagsWidth, walletWidth, keyWidth, countersWidth, blockWidth, issuerWidth, lastWidth, imageSize};
-ghost use Rattle.card.specs.Image.{encCodes, encFixed, encFlags, encWallet, encKey, encCounters, encBlock, encIssuer, encLast, encFront, encHeld, encFace};
+ghost use Rattle.card.specs.Layout.{codesWidth, fixedWidth, flagsWidth, walletWidth, keyWidth, countersWidth, blockWidth, issuerWidth, pendingWidth, lastWidth, imageSize};
+ghost use Rattle.card.specs.Image.{encCodes, encFixed, encFlags, encWallet, encKey, encCounters, encBlock, encIssuer, encWait, encPending, encLast, encFront, encHeld, encFace};
 
 pub fn write_codes(x: Codes, out: &mut [u8], at: usize) -> usize
     ensures { λ r. ⌜ (Runs (now (out .entry)) at (encCodes x) (now (out .exit)) r) × (length (encCodes x) ≡ codesWidth) ⌝ }
@@ -37,7 +39,8 @@ fn write_fixed(x: Fixed, out: &mut [u8], at: usize) -> usize
     let c = wire::put8(out, b, x.curve);
     let d = wire::put32(out, c, x.max);
     let seed = x.seed;
-    wire::give16(out, d, seed)
+    let e = wire::give16(out, d, seed);
+    wire::put8(out, e, x.pause)
 }
 
 pub fn write_flags(x: Flags, out: &mut [u8], at: usize) -> usize
@@ -99,6 +102,23 @@ fn write_issuer(x: Issuer, out: &mut [u8], at: usize) -> usize
     wire::put32(out, b, x.counter)
 }
 
+pub fn write_wait(x: Wait, out: &mut [u8], at: usize) -> usize
+    ensures { λ r. ⌜ (Runs (now (out .entry)) at (encWait x) (now (out .exit)) r) × (length (encWait x) ≡ 4) ⌝ }
+{
+    let a = wire::put8(out, at, x.wrong);
+    let b = wire::put8(out, a, x.left);
+    wire::put16(out, b, x.size)
+}
+
+fn write_pending(x: Pending, out: &mut [u8], at: usize) -> usize
+    ensures { λ r. ⌜ (Runs (now (out .entry)) at (encPending x) (now (out .exit)) r) × (length (encPending x) ≡ pendingWidth) ⌝ }
+{
+    let wait = x.wait;
+    let a = write_wait(wait, out, at);
+    let request = x.request;
+    wire::give1024(out, a, request)
+}
+
 fn write_last(x: Last, out: &mut [u8], at: usize) -> usize
     ensures { λ r. ⌜ (Runs (now (out .entry)) at (encLast x) (now (out .exit)) r) × (length (encLast x) ≡ lastWidth) ⌝ }
 {
@@ -142,6 +162,8 @@ pub fn write_face(face: Face, out: &mut [u8], at: usize) -> usize
     let a = write_front(front, out, at);
     let held = face.held;
     let b = write_held(held, out, a);
+    let pending = face.pending;
+    let c = write_pending(pending, out, b);
     let last = face.last;
-    write_last(last, out, b)
+    write_last(last, out, c)
 }

@@ -32,6 +32,12 @@ value-of-requires-5 c κs = tt
 hex16-requires : tie.Need-hex16-requires
 hex16-requires c κs = tt
 
+value-of-requires-6 : tie.Need-value-of-requires-6
+value-of-requires-6 c κs = tt
+
+pause-of-requires : tie.Need-pause-of-requires
+pause-of-requires c κs = tt
+
 returns : tie.Need-returns
 unfolding sheetFixed
 returns c = cc
@@ -50,4 +56,6 @@ fixed-of-spec =
     max-of-requires
     value-of-requires-5
     hex16-requires
+    value-of-requires-6
+    pause-of-requires
     returns)

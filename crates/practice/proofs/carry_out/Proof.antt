@@ -4,10 +4,13 @@ use lib.ListN.{drop}
 use Rattle.wire.proofs.Laws.{fine, failed}
 use Rattle.sent.specs.Sent.{viewBy}
 use Rattle.card.specs.Layout.{imageSize}
+use Rattle.card.specs.Values.{noPending}
 use Rattle.card.specs.Image.{decode}
 use Rattle.manual.specs.Words.{swErrorProcessingCommand}
+use Rattle.manual.specs.Settle.{waiting}
 use Rattle.practice.specs.Carried.{confirmedIn}
-use Rattle.practice.proofs.Laws.{made-own, made-none, spelled, refuses, carries}
+use Rattle.practice.proofs.Ends.{refuses}
+use Rattle.practice.proofs.Laws.{made-by, spelled, carries}
 use borrow.Author.Needs.{needs}
 use Rattle.practice.proofs.carry_out.Statement.{statement}
 use Rattle.practice.proofs.carry_out.Tie as tie
@@ -18,8 +21,8 @@ confirmation-requires c κs = tt
 made-requires : tie.Need-made-requires
 made-requires c κs = tt
 
-change-requires : tie.Need-change-requires
-change-requires c κs = tt
+renew-requires : tie.Need-renew-requires
+renew-requires c κs = search needs
 
 enum-told : tie.Need-enum-told
 enum-told c = search needs
@@ -44,15 +47,13 @@ returns c =
     let h = t .before .before .before .before in
     let g = h .before .before in
     let b = g .before in
-    let s = b .before .before .before .before .before .before .before in
-    let x = s .args in
-    let m = now (x .img) in
+    let x = b .before .before .before .before .before .before .before .args in
+    let m = decode (now (x .img)) in
     let v = viewBy (now (x .p)) (now (x .places)) in
-    let a = now (x .answers) in
     let d = now (x .next) in
-    let e = made-none (x .cmd) m v a d (s .pre .2) (g .made .ensures) (t .enum-told2 .given .1) (h .change .ensures) (s .pre .1) in
     rw (failed _ (t .enum-told2 .given .1) (b .confirmation .ensures))
-    (refuses (decode m) 13 swErrorProcessingCommand (now (x .response)) d (w .word-alone .ensures .0) (w .word-alone .ensures .1) e)
+    (refuses (waiting noPending m) (m .face) 13 swErrorProcessingCommand (now (x .response)) d (w .word-alone .ensures .0) (w .word-alone .ensures .1)
+    (made-by m v (now (x .answers)) (drop imageSize d) (x .cmd) (g .made .ensures) (t .enum-told2 .given .1) (h .renew .ensures)))
 
 word-requires : tie.Need-word-requires
 word-requires c κs = tt
@@ -88,7 +89,7 @@ returns-2 c =
     let v = viewBy (now (x .p)) (now (x .places)) in
     let a = now (x .answers) in
     let d = now (x .next) in
-    let e = made-own (x .cmd) m v a d (s .pre .2) (g .made .ensures) (u .enum-told .given .1) (h .change .ensures) (s .pre .1) in
+    let e = made-by (decode m) v a (drop imageSize d) (x .cmd) (g .made .ensures) (u .enum-told .given .1) (h .renew .ensures) in
     let f = ap decode (t .part .ensures) ∙ spelled (x .cmd) m v a d (s .pre .2) (drop imageSize d) e in
     rw (fine _ (u .enum-told .given .1) (b .confirmation .ensures))
     (carries (x .cmd) (decode m) v (now (x .draw)) a (now (x .response)) d (c .told .ensures) f (o .word .ensures) (r .respond .ensures) e)
@@ -99,7 +100,7 @@ carry-out-spec =
     (tie.spec
     confirmation-requires
     made-requires
-    change-requires
+    renew-requires
     enum-told
     enum-told-2
     word-alone-requires

@@ -80,7 +80,7 @@ returns c =
     let line = same-line taps (x .expected .ensures) (ap (λ z. z .number) result) told in
     let size = p .print-tap .ensures .size ∙ ap length line in
     let bytes = p .print-tap .ensures .bytes ∙ ap (λ v. over v (now (y .out))) line in
-    λ j. leftBy (record { play = record { taps = taps j; sums = sums j; ended = false }; length = size j }) (image j) (bytes j)
+    λ j. leftBy (record { play = record { taps = taps j; sums = sums j; paused = y .play .paused; ended = false }; length = size j }) (image j) (bytes j)
 
 pub tap-with-spec : {M : Type 1} → statement M
 tap-with-spec =

@@ -1,22 +1,14 @@
-use mathlib.Core.List.{List}
 use Rattle.sheet.specs.Sheet.{sheetLines, rowOf, goodLine, badFrom, firstBad}
-use Rattle.sheet.proofs.Laws.{bad-here, bad-on, bad-end}
-use Rattle.text.specs.Lines.{nextLine, startOf, fromLine}
+use Rattle.sheet.proofs.Laws.{from-start, bad-here, bad-on}
+use Rattle.text.specs.Lines.{nextLine, startOf}
 use mathlib.Core.Path.{_≡_, refl, sym, ap, _∙_}
 use denote.Ref.{now}
 use Prim.Native.Nat.{ℕ, suc, _+_, _-_, _≤_}
-use mathlib.Core.Bool.{cond}
-use lib.ListN.{length, drop}
-use lib.Dec.{ltb}
 use borrow.Author.Tests.{not-true, not-false}
 use Rattle.text.proofs.LineLaws.{start-next}
 use native.Mathlib.Omega.{arith}
 use Rattle.sheet.proofs.first_bad.Statement.{statement}
 use Rattle.sheet.proofs.first_bad.Tie as tie
-
-from : (k at : ℕ) (s : List ℕ) → at ≡ startOf k s → drop at s ≡ fromLine k s
-unfolding fromLine
-from k at s e = ap (λ (n : ℕ). drop n s) e
 
 abbrev Inv-loop : tie.InvT-loop
 Inv-loop sheet at₀ good₀ at good =
@@ -32,8 +24,12 @@ loop-holds c = (omega arith, refl, refl)
 add-line : tie.Need-add-line Inv-loop μ-loop
 add-line c = omega arith
 
-after-last-requires : tie.Need-after-last-requires Inv-loop μ-loop
-after-last-requires c κs = tt
+after-required-requires : tie.Need-after-required-requires Inv-loop μ-loop
+after-required-requires c κs =
+    let l = c .before .loop in
+    let s = now (c .before .before .before .args .sheet) in
+    let z : l .good + 1 ≡ suc sheetLines = omega arith in
+    l .inv .1 ∙ ap (λ (n : ℕ). startOf n s) z
 
 rest-requires : tie.Need-rest-requires Inv-loop μ-loop
 rest-requires c κs = tt
@@ -53,19 +49,18 @@ loop-again c =
     let l = g .before .before .before .loop in
     let s = now (g .before .before .before .before .before .args .sheet) in
     let h : l .good + 1 ≤ sheetLines = omega arith in
-    let r = g .good-line .ensures ∙ ap (goodLine (rowOf (l .good + 1))) (g .before .rest .ensures ∙ from (l .good + 1) (l .at) s (l .inv .1)) in
+    let r = g .good-line .ensures ∙ ap (goodLine (rowOf (l .good + 1))) (g .before .rest .ensures ∙ from-start (l .good + 1) (l .at) s (l .inv .1)) in
     let e = sym r ∙ not-false _ (c .before .if2 .left) in
     let n = c .next-line .ensures ∙ ap (nextLine s) (l .inv .1) ∙ sym (start-next (l .good + 1) s (omega arith)) in
     (omega arith, n, l .inv .2 ∙ bad-on (l .good + 1) s (omega arith) h e)
 
 returns : tie.Need-returns Inv-loop μ-loop
+unfolding badFrom
 returns c =
     let l = c .before .before .loop in
     let s = now (c .before .before .before .before .args .sheet) in
-    let z : suc sheetLines - (l .good + 1) ≡ 0 = omega arith in
-    c .after-last .ensures
-    ∙ ap (λ (n : ℕ). cond (ltb n (length s)) (l .good + 1) 0) (l .inv .1)
-    ∙ sym (l .inv .2 ∙ ap (λ (n : ℕ). badFrom n (l .good + 1) s) z ∙ bad-end (l .good + 1) s)
+    let z : l .good + 1 ≡ suc sheetLines = omega arith in
+    c .after-required .ensures ∙ sym (l .inv .2 ∙ ap (λ (n : ℕ). badFrom (suc sheetLines - n) n s) z)
 
 returns-2 : tie.Need-returns-2 Inv-loop μ-loop
 returns-2 c =
@@ -73,7 +68,7 @@ returns-2 c =
     let l = g .before .before .before .loop in
     let s = now (g .before .before .before .before .before .args .sheet) in
     let h : l .good + 1 ≤ sheetLines = omega arith in
-    let r = g .good-line .ensures ∙ ap (goodLine (rowOf (l .good + 1))) (g .before .rest .ensures ∙ from (l .good + 1) (l .at) s (l .inv .1)) in
+    let r = g .good-line .ensures ∙ ap (goodLine (rowOf (l .good + 1))) (g .before .rest .ensures ∙ from-start (l .good + 1) (l .at) s (l .inv .1)) in
     let e = sym r ∙ not-true _ (c .if2 .taken) in
     sym (l .inv .2 ∙ bad-here (l .good + 1) s (omega arith) h e)
 
@@ -85,7 +80,7 @@ first-bad-spec =
     μ-loop
     loop-holds
     add-line
-    after-last-requires
+    after-required-requires
     rest-requires
     good-line-requires
     next-line-requires

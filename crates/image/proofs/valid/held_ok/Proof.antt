@@ -1,14 +1,13 @@
-use Rattle.card.specs.Valid.{okHeld}
+use mathlib.Core.Path.{_∙_}
+use Rattle.wire.proofs.Laws.{and-assoc}
+use Rattle.card.specs.Image.{decHeld}
+use Rattle.card.specs.Valid.{okBlock, okIssuer, okHeld}
 use Rattle.image.proofs.Laws.{both-of}
-use borrow.Author.Needs.{needs}
 use Rattle.image.proofs.valid.held_ok.Statement.{statement}
 use Rattle.image.proofs.valid.held_ok.Tie as tie
 
-cast-block-ok : tie.Need-cast-block-ok
-cast-block-ok c = search needs
-
-block-ok-requires : tie.Need-block-ok-requires
-block-ok-requires c κs = tt
+data-ok-requires : tie.Need-data-ok-requires
+data-ok-requires c κs = tt
 
 issuer-ok-requires : tie.Need-issuer-ok-requires
 issuer-ok-requires c κs = tt
@@ -16,32 +15,13 @@ issuer-ok-requires c κs = tt
 both-requires : tie.Need-both-requires
 both-requires c κs = tt
 
-cast-block-ok-2 : tie.Need-cast-block-ok-2
-cast-block-ok-2 c = search needs
-
-block-ok-requires-2 : tie.Need-block-ok-requires-2
-block-ok-requires-2 c κs = tt
-
-both-requires-2 : tie.Need-both-requires-2
-both-requires-2 c κs = tt
-
 returns : tie.Need-returns
 unfolding okHeld
 returns c =
-    let u = c .before in
-    let b = u .before in
-    let i = b .before in
-    both-of (c .both2 .ensures) (u .block-ok2 .ensures) (both-of (b .both .ensures) (i .before .block-ok .ensures) (i .issuer-ok .ensures))
+    let d = c .before .before in
+    let held = decHeld (d .before .before .args .img .now) in
+    both-of (c .both .ensures) (d .data-ok .ensures) (c .before .issuer-ok .ensures)
+    ∙ and-assoc (okBlock (held .user)) (okBlock (held .protected)) (okIssuer (held .issuer))
 
 pub held-ok-spec : {M : Type 1} → statement M
-held-ok-spec =
-    tie.close
-    (tie.spec
-    cast-block-ok
-    block-ok-requires
-    issuer-ok-requires
-    both-requires
-    cast-block-ok-2
-    block-ok-requires-2
-    both-requires-2
-    returns)
+held-ok-spec = tie.close (tie.spec data-ok-requires issuer-ok-requires both-requires returns)

@@ -1,5 +1,6 @@
 use Prim.Native.Nat.{_*_}
-use mathlib.Core.Path.{ap, ap₂, _∙_}
+use mathlib.Core.Path.{sym, ap, ap₂, _∙_}
+use mathlib.Core.Logic.{⊎-elim}
 use lib.ListN.{drop}
 use lib.Dec.{leb}
 use Rattle.wire.specs.Wire.{allZero}
@@ -25,11 +26,14 @@ add-part c = search needs
 part-requires : tie.Need-part-requires
 part-requires c κs = tt
 
-mul-zero-from : tie.Need-mul-zero-from
-mul-zero-from c = search needs
+mul-used : tie.Need-mul-used
+mul-used c = search needs
 
 zero-from-requires : tie.Need-zero-from-requires
 zero-from-requires c κs = tt
+
+zero-from-requires-2 : tie.Need-zero-from-requires-2
+zero-from-requires-2 c κs = tt
 
 both-requires : tie.Need-both-requires
 both-requires c κs = tt
@@ -37,11 +41,16 @@ both-requires c κs = tt
 returns : tie.Need-returns
 unfolding okLast
 returns c =
-    let z = c .before in
-    let p = z .before in
+    let i = c .before in
+    let p = i .before in
     let count = p .before .get8 .ensures in
+    let used = ap (λ n. n * signatureSize) count in
+    let signatures = p .part .ensures in
     both-of (c .both .ensures) (ap (λ n. leb n mostHashes) count)
-    (z .zero-from .ensures ∙ ap₂ (λ n x. allZero (drop (n * signatureSize) x)) count (p .part .ensures))
+    (⊎-elim
+    (λ x. x .2 ∙ x .1 .ensures ∙ ap₂ (λ n s. allZero (drop n s)) (sym (x .0 .taken) ∙ used) signatures)
+    (λ x. x .2 ∙ x .1 .ensures ∙ ap₂ (λ n s. allZero (drop n s)) used signatures)
+    (i .if1 .came))
 
 pub last-ok-spec : {M : Type 1} → statement M
 last-ok-spec =
@@ -52,7 +61,8 @@ last-ok-spec =
     cast-count
     add-part
     part-requires
-    mul-zero-from
+    mul-used
     zero-from-requires
+    zero-from-requires-2
     both-requires
     returns)

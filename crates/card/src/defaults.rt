@@ -1,0 +1,78 @@
+// The default codes, and how long a code is.
+use crate::Codes;
+
+impl Codes {
+    pub const PIN_SIZE: usize = 32;
+
+    // SHA-256 of 000000.
+    pub const DEFAULT_PIN1: [u8; Codes::PIN_SIZE] = [
+        0x91,
+        0xB4,
+        0xD1,
+        0x42,
+        0x82,
+        0x3F,
+        0x7D,
+        0x20,
+        0xC5,
+        0xF0,
+        0x8D,
+        0xF6,
+        0x91,
+        0x22,
+        0xDE,
+        0x43,
+        0xF3,
+        0x5F,
+        0x05,
+        0x7A,
+        0x98,
+        0x8D,
+        0x96,
+        0x19,
+        0xF6,
+        0xD3,
+        0x13,
+        0x84,
+        0x85,
+        0xC9,
+        0xA2,
+        0x03,
+    ];
+
+    // SHA-256 of 000.
+    pub const DEFAULT_PIN2: [u8; Codes::PIN_SIZE] = [
+        0x2A,
+        0xC9,
+        0xA6,
+        0x74,
+        0x6A,
+        0xCA,
+        0x54,
+        0x3A,
+        0xF8,
+        0xDF,
+        0xF3,
+        0x98,
+        0x94,
+        0xCF,
+        0xE8,
+        0x17,
+        0x3A,
+        0xFB,
+        0xA2,
+        0x1E,
+        0xB0,
+        0x1C,
+        0x6F,
+        0xAE,
+        0x33,
+        0xD5,
+        0x29,
+        0x47,
+        0x22,
+        0x28,
+        0x55,
+        0xEF,
+    ];
+}
