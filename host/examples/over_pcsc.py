@@ -4,7 +4,11 @@ import sys
 
 from smartcard.System import readers
 
+WAIT = [0x97, 0x89]  # the card makes its holder wait, and wants the same bytes again
+
 card = next(reader for reader in readers() if reader.name == "Virtual PCD 00 00").createConnection()
 card.connect()
-answer, sw1, sw2 = card.transmit(list(bytes.fromhex(sys.argv[1])))
-print(bytes([*answer, sw1, sw2]).hex().upper())
+word = WAIT
+while word == WAIT:
+    answer, *word = card.transmit(list(bytes.fromhex(sys.argv[1])))
+    print(bytes([*answer, *word]).hex().upper())

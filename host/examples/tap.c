@@ -43,7 +43,10 @@ int main(void)
         return fputs("the sheet is bad\n", stderr), 1;
     practice_codes codes = practice_codes_of(image);
     size_t length = practice_request_create_wallet(request, sizeof request, &codes);
-    practice_result done = tap(image, request, length, response);
+    practice_result done;
+    do /* an app shows a bar meanwhile: the card makes its holder wait, and wants the same bytes again */
+        done = tap(image, request, length, response);
+    while (done.word == PRACTICE_SW_NEED_PAUSE);
     show(response, done.length);
     if (done.reason != 0)
         printf("refused by check %u\n", done.reason);

@@ -14,10 +14,10 @@
 
 using bytes = std::vector<std::uint8_t>;
 
-// What a tap gives: the response, and the check that refused, 0 where none did (PRACTICE_CHECK_LENGTH and so on).
+// What a tap gives: the response, its status word, and the check that refused, 0 where none did (PRACTICE_CHECK_LENGTH and so on).
 struct answer {
     bytes response;
-    int reason;
+    int word, reason;
 };
 
 // A card in a reader. The image is the card, and all that is kept of it.
@@ -50,7 +50,16 @@ public:
             throw std::runtime_error("no tap");
         image.assign(next.begin(), next.begin() + image.size());
         response.resize(done.length);
-        return {response, done.reason};
+        return {response, done.word, done.reason};
+    }
+
+    // As long as the card makes its holder wait it wants the same bytes again.
+    answer tap_to_the_end(const bytes &request)
+    {
+        answer got = tap(request);
+        while (got.word == PRACTICE_SW_NEED_PAUSE)
+            got = tap(request);
+        return got;
     }
 
     answer create_wallet()
@@ -58,7 +67,7 @@ public:
         bytes request(PRACTICE_REQUEST_ROOM);
         practice_codes codes = practice_codes_of(image.data());
         request.resize(practice_request_create_wallet(request.data(), request.size(), &codes));
-        return tap(request);
+        return tap_to_the_end(request);
     }
 
     std::uint32_t remaining() const { return practice_view_number(image.data(), PRACTICE_VIEW_REMAINING); }

@@ -121,3 +121,17 @@ complaint card_tap(const char *path, seed keys, const uint8_t *request, size_t l
     card_close(&c);
     return wrong;
 }
+
+complaint card_power_off(const char *path)
+{
+    static exchange off;
+    card c;
+    complaint wrong = card_open(&c, path);
+    if (wrong)
+        return wrong;
+    wrong = exchange_power_off(c.image, &off);
+    if (!wrong)
+        wrong = card_keep(&c, &off);
+    card_close(&c);
+    return wrong;
+}

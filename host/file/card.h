@@ -31,6 +31,9 @@ complaint card_create(const char *path, const uint8_t *image, seed keys);
 complaint card_tap(const char *path, seed keys, const uint8_t *request, size_t length, const uint8_t draw[PRACTICE_DRAW],
                    exchange *tap);
 
+/* The card loses its power: what it holds is forgotten, and it is stored so. */
+complaint card_power_off(const char *path);
+
 /* ---- the same in steps ---- */
 
 /* Takes the lock and reads the card. After a complaint nothing is held. */
@@ -48,7 +51,8 @@ complaint card_answer(card *c, seed keys, const uint8_t *request, size_t length,
 complaint card_bind(card *c, seed keys);
 void card_unbind(card *c);
 
-/* Puts the card after the tap in the place of the one before. A tap that changed nothing leaves the file alone. */
+/* Puts the card after the tap in the place of the one before, whatever the status word: a refusal may have changed it too. A tap that
+ * changed nothing leaves the file alone. */
 complaint card_keep(card *c, const exchange *tap);
 
 /* Whether the file holds this image now: after card_keep has complained, whether that came too late to undo the tap. */

@@ -1,4 +1,4 @@
-/* The two calls of the library with the provider between them. */
+/* The library's calls: the two of a tap with the provider between them, and the power-off. */
 #include "exchange.h"
 
 #include "image.h"
@@ -28,6 +28,7 @@ complaint exchange_settle(const uint8_t *image, const uint8_t *request, size_t l
     practice_result settled = practice_settle(image, practice_image_length(), request, length, draw, PRACTICE_DRAW, tap->answers,
                                               tap->answers_len, tap->response, sizeof tap->response, tap->next, sizeof tap->next);
     tap->response_len = settled.length;
+    tap->word = settled.word;
     tap->reason = settled.reason;
     return by_number("practice_settle", settled);
 }
@@ -37,4 +38,12 @@ complaint exchange_tap(const uint8_t *image, const uint8_t *request, size_t leng
 {
     complaint wrong = exchange_ask(image, request, length, draw, tap);
     return wrong ? wrong : exchange_settle(image, request, length, draw, keys, tap);
+}
+
+complaint exchange_power_off(const uint8_t *image, exchange *off)
+{
+    practice_result done = practice_power_off(image, practice_image_length(), off->next, sizeof off->next);
+    off->questions_len = off->answers_len = off->response_len = 0;
+    off->word = off->reason = 0;
+    return by_number("practice_power_off", done);
 }

@@ -1,4 +1,4 @@
-/* One tap in memory: ask, answer, settle. */
+/* One tap in memory: ask, answer, settle; and a power-off. */
 #ifndef EXCHANGE_H
 #define EXCHANGE_H
 
@@ -17,13 +17,15 @@ typedef struct {
     size_t answers_len;
     uint8_t response[PRACTICE_ROOM];
     size_t response_len;
+    uint16_t word;  /* the status word */
     uint8_t reason; /* the check that refused, 0 where none did */
     uint8_t next[PRACTICE_IMAGE_ROOM]; /* practice_image_length() bytes of it are the card after the tap */
 } exchange;
 
 /* Taps an image, which is a card, with a request under a draw, the provider's keys coming from the seed.
  *
- * A complaint means that there was no tap: the provider could not answer. A refusal by a status word is a response like any other. */
+ * A complaint means that there was no tap: the provider could not answer. A refusal by a status word is a response like any other, and
+ * so is 9789: either may leave another card. */
 complaint exchange_tap(const uint8_t *image, const uint8_t *request, size_t length, const uint8_t draw[PRACTICE_DRAW], seed keys,
                        exchange *tap);
 
@@ -31,5 +33,8 @@ complaint exchange_tap(const uint8_t *image, const uint8_t *request, size_t leng
 complaint exchange_ask(const uint8_t *image, const uint8_t *request, size_t length, const uint8_t draw[PRACTICE_DRAW], exchange *tap);
 complaint exchange_settle(const uint8_t *image, const uint8_t *request, size_t length, const uint8_t draw[PRACTICE_DRAW], seed keys,
                           exchange *tap);
+
+/* The card after its power went off. No tap: what an exchange has beside is empty. */
+complaint exchange_power_off(const uint8_t *image, exchange *off);
 
 #endif

@@ -19,8 +19,9 @@ typedef struct {
 /* A value of an image that is a card. */
 image_value image_get(const uint8_t *image, practice_view_name name);
 
-/* Whether the bytes are a card from before there was activation: one but for the Activation_Seed, which is not there. */
-int image_lacks_seed(const uint8_t *image, size_t length);
+/* What is said of a card from before there was activation, or the security delay: one but for values that are not there. NULL where the
+ * bytes are none. */
+complaint image_of_before(const uint8_t *image, size_t length);
 
 /* NULL where the bytes are a card, by the library's own word. */
 complaint image_is_card(const uint8_t *image, size_t length);

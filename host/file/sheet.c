@@ -1,7 +1,9 @@
 /* What the library says of a sheet, in words. */
 #include "sheet.h"
 
-static const char *const lines[SHEET_LINES] = {
+#include <string.h>
+
+static const char *const lines[SHEET_LINES + 1] = {
     "cid, a tab and 16 hex digits in capitals",
     "pin1, a tab and 64 hex digits in capitals",
     "pin2, a tab and 64 hex digits in capitals",
@@ -16,6 +18,7 @@ static const char *const lines[SHEET_LINES] = {
     "replay, a tab and 0 or 1",
     "active, a tab and 0 or 1",
     "seed, a tab and 32 hex digits in capitals",
+    "pause, a tab and a number from 0 to 60 without leading zeros",
 };
 
 /* The last one counts without its line feed, too. */
@@ -32,8 +35,22 @@ complaint sheet_card(const uint8_t *sheet, size_t length, uint8_t image[PRACTICE
     uint32_t line = practice_personalise(sheet, length, image, PRACTICE_IMAGE_ROOM);
     if (line == 0)
         return NULL;
+    if (line > SHEET_LINES + 1)
+        return complain("line %u is bad: nothing may follow line %d", line, SHEET_LINES + 1);
     if (line > SHEET_LINES)
-        return complain("line %u is bad: nothing may follow line %d", line, SHEET_LINES);
+        return complain("line %u is bad: nothing may follow line %d but %s, ended by a line feed", line, SHEET_LINES, lines[line - 1]);
     return complain("line %u is %s: it has to be %s, ended by a line feed", line, line > count_lines(sheet, length) ? "missing" : "bad",
                     lines[line - 1]);
+}
+
+/* By the library's own word: it takes the line behind the others, or calls it bad. */
+int sheet_goes_on(const uint8_t *sheet, size_t length, const char *line, size_t line_length, uint8_t image[PRACTICE_IMAGE_ROOM])
+{
+    static uint8_t whole[SHEET_ROOM];
+    if (length + line_length + 1 > sizeof whole)
+        return 0;
+    memcpy(whole, sheet, length);
+    memcpy(whole + length, line, line_length);
+    whole[length + line_length] = '\n';
+    return practice_personalise(whole, length + line_length + 1, image, PRACTICE_IMAGE_ROOM) == 0;
 }

@@ -1,8 +1,8 @@
 /* The practice card, for C hosts.
  *
  * Two calls make a tap. practice_ask takes the card's image, the request and a draw of random bytes, and writes the questions that the
- * host's cryptography has to answer. practice_settle takes the same and the answers, and writes the response and the next image. The
- * library keeps nothing between calls: the host keeps the image.
+ * host's cryptography has to answer. practice_settle takes the same and the answers, and writes the response and the next image.
+ * practice_power_off is the card leaving the reader's field. The library keeps nothing between calls: the host keeps the image.
  *
  *   host/build                       makes target/host/lib/libpractice.a and libpractice.so (x86-64): the proved library, as
  *                                    rt staticlib practice writes it, and beside it practice_view.h and practice_request.h
@@ -30,12 +30,14 @@ enum {
     PRACTICE_NO_ANSWERS = 4 /* the answers have not the shape that the questions ask for (practice_settle only) */
 };
 
-/* The status words: `word` of a result, and the last two bytes of a response. 9000 to 9003 are done, any other is a refusal. */
+/* The status words: `word` of a result, and the last two bytes of a response. 9000 to 9003 are done, 9789 has the holder wait, any other
+ * is a refusal. */
 enum {
     PRACTICE_SW_PROCESS_COMPLETED = 0x9000, /* done; after SET_PIN: both codes are as they were */
     PRACTICE_SW_PIN1_CHANGED = 0x9001,      /* done, by SET_PIN alone: PIN1 is another now */
     PRACTICE_SW_PIN2_CHANGED = 0x9002,
     PRACTICE_SW_PINS_CHANGED = 0x9003,
+    PRACTICE_SW_NEED_PAUSE = 0x9789,        /* not yet: send the same bytes again (practice_settle) */
     PRACTICE_SW_ERROR_PROCESSING_COMMAND = 0x6286, /* by WRITE_ISSUER_DATA and ACTIVATE_CARD: the issuer did not sign this */
     PRACTICE_SW_WRONG_LENGTH = 0x6700,      /* the request has not 6 to 1,024 bytes, or does not end where its Lc says */
     PRACTICE_SW_NEED_ENCRYPTION = 0x6982,   /* P2 names an encryption (01, 02), and no session is open */
@@ -46,9 +48,9 @@ enum {
 };
 
 /* Which check refused: `reason` of a result. The card makes its checks in this order, and the first to fail decides. 0 where none did:
- * with 9000 to 9003, and with a number other than PRACTICE_DONE. practice_ask makes the first twelve and practice_settle all of them, so
- * that practice_ask never says PRACTICE_CHECK_ISSUER: it has 0 for whatever passes the others. Each has one status word, but for
- * PRACTICE_CHECK_P1_P2. A real card keeps the reason to itself: no byte of a response tells it. */
+ * with 9000 to 9003 and 9789 (a wait comes after check 10), and with a number other than PRACTICE_DONE. practice_ask makes the first
+ * twelve and practice_settle all of them, so that practice_ask never says PRACTICE_CHECK_ISSUER: it has 0 for whatever passes the others.
+ * Each has one status word, but for PRACTICE_CHECK_P1_P2. A real card keeps the reason to itself: no byte of a response tells it. */
 enum {
     PRACTICE_CHECK_LENGTH = 1,     /* the length of the request, or its Lc */
     PRACTICE_CHECK_CLASS = 2,      /* the class is not 00 */
@@ -106,8 +108,8 @@ typedef struct {
  *
  * in:   the image, the request as it came, PRACTICE_DRAW random bytes
  * out:  questions, one after the other: kind (1), wallet number (2), curve (1), message length (2), message; numbers are big-endian.
- * A request that is refused before any question is asked gives its status word and no question; otherwise the word is 9000, whatever
- * practice_settle will say. */
+ * A request that is refused before any question is asked, or has to wait, gives its status word and no question; otherwise the word is
+ * 9000, whatever practice_settle will say. */
 practice_result practice_ask(const uint8_t *image, size_t image_len, const uint8_t *request, size_t request_len, const uint8_t *draw,
                              size_t draw_len, uint8_t *questions, size_t questions_len);
 
@@ -115,17 +117,34 @@ practice_result practice_ask(const uint8_t *image, size_t image_len, const uint8
  *
  * in:   the image, the request and the draw that practice_ask was given, and the answers one after the other with nothing between
  *       (none where there was no question)
- * out:  the response, length bytes of it, and the next image, practice_image_length() bytes. A refusal (a word outside 9000 to 9003)
- *       writes the old image as the next one. With a number other than 0 nothing is written, and the old image stays the card. */
+ * out:  the response, length bytes of it, and the next image, practice_image_length() bytes. With number 0 the next image is the card,
+ *       and the host stores it, whatever the word: a refusal changes the card as well (it counts a wrong code and forgets a request that
+ *       had to wait), and so does 9789. With any other number nothing is written, and the old image stays the card.
+ *
+ * After a wrong code, and before a command that needs PIN2 where the sheet has a pause, the card makes its holder wait. The response is
+ * then 1C 02, the seconds left in units of 10 ms in two bytes, and 9789; the answers were not looked at, and the card holds the request.
+ * The host sends the same bytes again, under any draw, until the word is another. The first sending says T seconds, 1 to 120; each takes
+ * off one, however soon it comes, and sending T+1 is carried out, or refused, as ever. Meanwhile the host shows its user how far it is,
+ * and keeps the card in the field: after a power-off, after other bytes, and where one of the first ten checks refuses, the card holds
+ * nothing more, and the wait begins anew. */
 practice_result practice_settle(const uint8_t *image, size_t image_len, const uint8_t *request, size_t request_len, const uint8_t *draw,
                                 size_t draw_len, const uint8_t *answers, size_t answers_len, uint8_t *response, size_t response_len,
                                 uint8_t *next, size_t next_len);
 
+/* The card without power: it leaves the reader's field, or is reset.
+ *
+ * in:   the image
+ * out:  the next image, practice_image_length() bytes, with number 0: a request that had to wait is forgotten, and the count of wrong
+ *       codes stays. It is written also where no request was held. Number 1 or 2: nothing is written. There is no response: reason, word
+ *       and length are 0. */
+practice_result practice_power_off(const uint8_t *image, size_t image_len, uint8_t *next, size_t next_len);
+
 /* The fresh card of a personalisation sheet.
  *
- * in:   the sheet's text, fourteen lines
+ * in:   the sheet's text, fourteen lines, or fifteen where the last is `pause`
  * out:  0   the card's image stands at the start of image
- *       1 to 14   the first bad line, or 15 where bytes follow line 14: image is as it was
+ *       1 to 14   the first bad line: image is as it was
+ *       15  what follows line 14 is no line `pause`, or 16 where bytes follow that line: image is as it was
  *       99  image has fewer than PRACTICE_IMAGE_ROOM bytes, and is as it was */
 uint32_t practice_personalise(const uint8_t *sheet, size_t sheet_len, uint8_t *image, size_t image_len);
 

@@ -23,6 +23,7 @@ typedef enum {
     PRACTICE_VIEW_CURVE, /* PRACTICE_SECP256K1 or PRACTICE_ED25519 */
     PRACTICE_VIEW_MAX_SIGNATURES,
     PRACTICE_VIEW_ACTIVATION_SEED, /* for good, though READ_CARD tells it only until the card is activated */
+    PRACTICE_VIEW_PAUSE,    /* seconds that a command which needs PIN2 waits, 0 to 60 */
     PRACTICE_VIEW_REUSABLE, /* the flags, 0 or 1 */
     PRACTICE_VIEW_CVC_USED,
     PRACTICE_VIEW_PIN1_MAY_CHANGE,
@@ -44,6 +45,9 @@ typedef enum {
     PRACTICE_VIEW_ISSUER_DATA,
     PRACTICE_VIEW_ISSUER_DATA_SIGNATURE, /* zeros where no Issuer_Data is held */
     PRACTICE_VIEW_ISSUER_DATA_COUNTER,
+    PRACTICE_VIEW_WRONG_CODES,  /* codes refused since a command last went on, 0 to 60; the next one waits so many seconds */
+    PRACTICE_VIEW_SECONDS_LEFT, /* of the held request, 1 to 120; 0 where none is held */
+    PRACTICE_VIEW_HELD_REQUEST, /* the one that has to wait; no bytes where none is held */
     PRACTICE_VIEW_LAST_SIGNATURES, /* 64 bytes each, one after the other; no bytes where there is no wallet */
     PRACTICE_VIEW_VALUES           /* how many there are */
 } practice_view_name;

@@ -4,14 +4,15 @@
  *   bench list       the names of what can be called, with the length of the request
  *   bench NAME N     calls that N times, for a counter that only sees whole runs: two runs give the cost of one call
  *
- * Two cards are tapped, both Loaded. One holds no data and no signatures, the other as much as a card can hold. They are made through
- * the library's own calls, with answers of no meaning: what a signature is does not matter here. Wrong codes are sent to the first, and
- * to one like it that asks for the CVC. */
+ * Two cards are tapped, both Loaded. One holds no data, no signatures and no request, the other as much as a card can hold. They are made
+ * through the library's own calls, with answers of no meaning: what a signature is does not matter here. Wrong codes are sent to the first,
+ * and to one like it that asks for the CVC. On one like each, a wrong code was sent before, so that the next request has to wait. */
 #include <stdio.h>
 #include <stdlib.h>
 #include <string.h>
 
 #include "practice.h"
+#include "practice_view.h"
 
 #if __has_include(<valgrind/callgrind.h>)
 #include <valgrind/callgrind.h>
@@ -28,7 +29,7 @@
 #define MOST_HASHES 10
 
 enum { PIN1 = 0x10, CID = 0x01, PIN2 = 0x11, NEW_PIN1 = 0x12, NEW_PIN2 = 0x13, CVC = 0x19 };
-enum { DATA_OPEN = 0x2A, DATA_PROTECTED = 0x2B, ISSUER_DATA = 0x32 };
+enum { DATA_OPEN = 0x2A, DATA_PROTECTED = 0x2B, ISSUER_DATA = 0x32, UNREAD = 0x77 };
 enum { ISSUER_SIGNATURE = 0x33, ISSUER_COUNTER = 0x35, HASHES = 0x50, HASH_SIZE = 0x51 };
 
 typedef struct {
@@ -47,6 +48,7 @@ typedef struct {
 } tap_case;
 
 static uint8_t empty[PRACTICE_IMAGE_ROOM], signed_once[PRACTICE_IMAGE_ROOM], full[PRACTICE_IMAGE_ROOM], guarded[PRACTICE_IMAGE_ROOM];
+static uint8_t empty_waits[PRACTICE_IMAGE_ROOM], full_waits[PRACTICE_IMAGE_ROOM];
 static uint8_t draw[PRACTICE_DRAW], code[CODE], data[DATA], cid[8] = {0xAA, 0, 0, 0, 0, 1, 0x66, 0x75};
 static const uint8_t cvc[3] = {'1', '2', '3'};
 static uint8_t questions[PRACTICE_ROOM], response[PRACTICE_ROOM], next[PRACTICE_IMAGE_ROOM];
@@ -163,6 +165,22 @@ static void make_issuer_write(request *r, uint8_t counter)
     finish(r);
 }
 
+static void make_wrong_code(request *r)
+{
+    make_plain(r, 0xF2, 0);
+    r->bytes[7 + CODE - 1] ^= 1;
+}
+
+/* READ_CARD of the greatest length: behind its fields stand two that no command reads. */
+static void make_longest(request *r)
+{
+    begin(r, 0xF2);
+    access_fields(r, 0);
+    field(r, UNREAD, data, DATA);
+    field(r, UNREAD, data, sizeof r->bytes - r->length - 4);
+    finish(r);
+}
+
 /* ---- cards ---- */
 
 static void personalise(uint8_t image[PRACTICE_IMAGE_ROOM], int usecvc)
@@ -179,13 +197,34 @@ static void personalise(uint8_t image[PRACTICE_IMAGE_ROOM], int usecvc)
         stop("the sheet is bad");
 }
 
-static void tap(uint8_t image[PRACTICE_IMAGE_ROOM], const request *r, const uint8_t *answers, size_t answers_len)
+static void tap_to(unsigned word, uint8_t image[PRACTICE_IMAGE_ROOM], const request *r, const uint8_t *answers, size_t answers_len)
 {
     practice_result done = practice_settle(image, practice_image_length(), r->bytes, r->length, draw, sizeof draw, answers, answers_len,
                                            response, sizeof response, next, sizeof next);
-    if (done.number != 0 || done.word != 0x9000)
+    if (done.number != 0 || done.word != word)
         stop("a card could not be made");
     memcpy(image, next, practice_image_length());
+}
+
+static void tap(uint8_t image[PRACTICE_IMAGE_ROOM], const request *r, const uint8_t *answers, size_t answers_len)
+{
+    tap_to(0x9000, image, r, answers, answers_len);
+}
+
+/* The full card holds a request besides, one second before its end. With the wrong code that it waits for every request would have to
+ * wait: on `full` that is taken from the count, so that others go on, and drop it. No taps lead there; it is a card all the same. */
+static void make_waits(void)
+{
+    request r;
+    memcpy(empty_waits, empty, sizeof empty);
+    memcpy(full_waits, full, sizeof full);
+    make_wrong_code(&r);
+    tap_to(0x6A86, empty_waits, &r, data, 0);
+    tap_to(0x6A86, full_waits, &r, data, 0);
+    make_longest(&r);
+    tap_to(0x9789, full_waits, &r, data, 0);
+    memcpy(full, full_waits, sizeof full);
+    full[practice_view(full, PRACTICE_VIEW_WRONG_CODES).bytes - full] = 0;
 }
 
 static void make_cards(void)
@@ -212,6 +251,7 @@ static void make_cards(void)
     uint8_t signatures[MOST_HASHES * SIGNATURE];
     memset(signatures, 0x5A, sizeof signatures);
     tap(full, &r, signatures, sizeof signatures);
+    make_waits();
 }
 
 /* ---- cases ---- */
@@ -228,7 +268,7 @@ static tap_case *new_case(const char *card, const uint8_t *image, const char *na
     return c;
 }
 
-static void make_cases(const char *card, const uint8_t *image, const uint8_t *with_signatures)
+static void make_cases(const char *card, const uint8_t *image, const uint8_t *with_signatures, const uint8_t *waits)
 {
     make_plain(&new_case(card, image, "READ_CARD", 0, 0x9000)->sent, 0xF2, 0);
     make_sign(&new_case(card, image, "SIGN, 1 hash", SIGNATURE, 0x9000)->sent, 1);
@@ -238,10 +278,9 @@ static void make_cases(const char *card, const uint8_t *image, const uint8_t *wi
     request *refused = &new_case(card, image, "refused by check 1", 0, 0x6700)->sent;
     make_plain(refused, 0xF2, 0);
     refused->length--;
-    refused = &new_case(card, image, "refused by check 6", 0, 0x6A86)->sent;
-    make_plain(refused, 0xF2, 0);
-    refused->bytes[7 + CODE - 1] ^= 1;
+    make_wrong_code(&new_case(card, image, "refused by check 6", 0, 0x6A86)->sent);
     make_plain(&new_case(card, image, "refused by check 12", 0, 0x6985)->sent, 0xFC, 1);
+    make_plain(&new_case(card, waits, "READ_CARD, has to wait", 0, 0x9789)->sent, 0xF2, 0);
 }
 
 /* ---- wrong codes: ask and settle alone ---- */
@@ -515,8 +554,8 @@ int main(int count, char **arguments)
     memset(code, 0x11, sizeof code);
     memset(data, 0xA5, sizeof data);
     make_cards();
-    make_cases("empty", empty, signed_once);
-    make_cases("full", full, full);
+    make_cases("empty", empty, signed_once, empty_waits);
+    make_cases("full", full, full, full_waits);
     make_code_cases();
     check_cases();
     if (count == 1)

@@ -43,3 +43,10 @@ size_t held_answer(held_card *card, const uint8_t *request, size_t length, uint8
     memcpy(response, tap.response, tap.response_len);
     return tap.response_len;
 }
+
+void held_power_off(const held_card *card)
+{
+    complaint wrong = about(card, card_power_off(card->path));
+    if (wrong)
+        fprintf(stderr, "reader: %s\n", wrong);
+}

@@ -21,4 +21,7 @@ complaint held_look(const held_card *card);
 /* One tap. Returns the length of the response, which is 6F00 where there was no tap; the reason then stands on standard error. */
 size_t held_answer(held_card *card, const uint8_t *request, size_t length, uint8_t response[PRACTICE_ROOM]);
 
+/* The card has no power now. Where that cannot be stored the reason stands on standard error. */
+void held_power_off(const held_card *card);
+
 #endif

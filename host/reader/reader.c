@@ -17,7 +17,7 @@ static int help(void)
          "\n"
          "Puts a card file into a PC/SC reader, where opensc-tool, scriptor, pyscard, javax.smartcardio and others find it as the\n"
          "card of the reader 'Virtual PCD 00 00'. Needs pcscd, running, and vsmartcard-vpcd. Every request is a tap on the card\n"
-         "file. Ctrl-C ends it.\n"
+         "file. Where the client powers the card off, resets it or leaves it, it forgets a request that waits. Ctrl-C ends it.\n"
          "\n"
          "  --seed TEXT    keys and draws from this seed, as for 'tap send'\n"
          "  --port NUMBER  where vpcd waits on 127.0.0.1 (35963)\n"

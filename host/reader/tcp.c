@@ -1,4 +1,4 @@
-/* Every message is a request, and its answer the response. */
+/* Every message is a request, and its answer the response. A connection is the card in a phone's field: with its end the power is off. */
 #define _GNU_SOURCE
 #include "tcp.h"
 
@@ -42,8 +42,10 @@ complaint tcp_serve(held_card *card, uint16_t port)
         return complain("standard output cannot be written");
     while (readable_within(listener, FOR_EVER)) {
         int connection = accept4(listener, NULL, NULL, SOCK_CLOEXEC);
-        if (connection >= 0)
-            serve(connection, listener, card, held_answer);
+        if (connection < 0)
+            continue;
+        serve(connection, listener, card, held_answer);
+        held_power_off(card);
     }
     close(listener);
     return NULL;

@@ -22,16 +22,25 @@ enum { POWER_OFF = 0, POWER_ON = 1, RESET = 2, SEND_ATR = 4 };
 /* T=0 and T=1 are offered, and the historical bytes spell a name. */
 static const uint8_t atr[] = {0x3B, 0x88, 0x80, 0x01, 'P', 'R', 'A', 'C', 'T', 'I', 'C', 'E', 0x12};
 
-/* Power and reset are taken, and do nothing to this card. */
+/* A reset takes the power away as well, for a moment. */
+static size_t control(held_card *card, uint8_t which, uint8_t response[PRACTICE_ROOM])
+{
+    if (which == POWER_OFF || which == RESET)
+        held_power_off(card);
+    if (which != SEND_ATR)
+        return NO_ANSWER;
+    memcpy(response, atr, sizeof atr);
+    return sizeof atr;
+}
+
+static int is_control(const uint8_t *message, size_t length)
+{
+    return length == 1 && (message[0] == POWER_OFF || message[0] == POWER_ON || message[0] == RESET || message[0] == SEND_ATR);
+}
+
 static size_t answer(held_card *card, const uint8_t *message, size_t length, uint8_t response[PRACTICE_ROOM])
 {
-    if (length == 1 && message[0] == SEND_ATR) {
-        memcpy(response, atr, sizeof atr);
-        return sizeof atr;
-    }
-    if (length == 1 && (message[0] == POWER_OFF || message[0] == POWER_ON || message[0] == RESET))
-        return NO_ANSWER;
-    return held_answer(card, message, length, response);
+    return is_control(message, length) ? control(card, message[0], response) : held_answer(card, message, length, response);
 }
 
 /* ---- into the reader ---- */
@@ -93,10 +102,13 @@ complaint vpcd_serve(held_card *card, uint16_t port)
     int told = 0, reader = connect_in_time(port, card->path, &told);
     if (reader < 0)
         return has_ended() ? NULL : complain("no reader on 127.0.0.1 port %u: is pcscd running, with vsmartcard-vpcd?", port);
-    if (is_asked(reader, card->path, &told))
+    int is_in = is_asked(reader, card->path, &told);
+    if (is_in)
         printf("%s is in the reader\n", card->path);
     fflush(stdout);
     serve(reader, -1, card, answer);
+    if (is_in)
+        held_power_off(card);
     if (!has_ended())
         puts("the reader is gone");
     return NULL;

@@ -4,6 +4,7 @@
  *
  *   A   image, request, draw; questions                     practice_ask
  *   S   image, request, draw, answers; response, next       practice_settle
+ *   O   image; next                                         practice_power_off
  *   P   sheet; image                                        practice_personalise
  *   L   (none)                                              practice_image_length
  *
@@ -68,6 +69,11 @@ static uint64_t settle(void)
     return packed(practice_settle(PART(0), PART(1), PART(2), PART(3), PART(4), PART(5)));
 }
 
+static uint64_t power_off(void)
+{
+    return packed(practice_power_off(PART(0), PART(1)));
+}
+
 static uint64_t personalise(void)
 {
     return practice_personalise(PART(0), PART(1));
@@ -79,7 +85,9 @@ static uint64_t image_length(void)
 }
 
 static const kind kinds[] = {
-    {'A', 4, 3, ask, 8}, {'S', 6, 4, settle, 8}, {'P', 2, 1, personalise, 4}, {'L', 0, 0, image_length, 4}};
+    {'A', 4, 3, ask, 8},         {'S', 6, 4, settle, 8},       {'O', 2, 1, power_off, 8},
+    {'P', 2, 1, personalise, 4}, {'L', 0, 0, image_length, 4},
+};
 
 static const kind *kind_of(int letter)
 {

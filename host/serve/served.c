@@ -1,4 +1,4 @@
-/* The library's four calls, made by a process that serves them (serve.c): for programs that are compiled for another machine than the
+/* The library's five calls, made by a process that serves them (serve.c): for programs that are compiled for another machine than the
  * library is, as those with sanitizers on Arm. SERVE is the path of that process; it is started at the first call, and ends with this one. */
 #define _GNU_SOURCE
 #include <fcntl.h>
@@ -99,6 +99,12 @@ practice_result practice_settle(const uint8_t *image, size_t image_len, const ui
 {
     const part parts[] = {GIVEN(image), GIVEN(request), GIVEN(draw), GIVEN(answers), LENT(response), LENT(next)};
     return unpacked(call('S', parts, COUNT(parts), 8));
+}
+
+practice_result practice_power_off(const uint8_t *image, size_t image_len, uint8_t *next, size_t next_len)
+{
+    const part parts[] = {GIVEN(image), LENT(next)};
+    return unpacked(call('O', parts, COUNT(parts), 8));
 }
 
 uint32_t practice_personalise(const uint8_t *sheet, size_t sheet_len, uint8_t *image, size_t image_len)

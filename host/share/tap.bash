@@ -25,7 +25,7 @@ _tap()
     *) files=${#COMP_WORDS[@]} ;;
     esac
     if ((COMP_CWORD == 1)); then
-        choices="help $(sed -n 's/^  tap \([a-z]*\).*/\1/p' <<< "$help")"
+        choices="help $(sed -n 's/^  tap \([a-z-]*\).*/\1/p' <<< "$help")"
     elif [[ $word == -* ]]; then
         choices=$(grep '^  -' <<< "$help" | grep -o -- '--[a-z0-9-]*[a-z0-9]')
     elif (($(_tap_operands "$help") >= files)); then

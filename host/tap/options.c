@@ -16,6 +16,9 @@ static const row rows[] = {
     {'1', "pin1", "TEXT", "send this PIN1, hashed by SHA-256, instead of the card's own"},
     {'2', "pin2", "TEXT", "the same for PIN2"},
     {'c', "cvc", "TEXT", "send this CVC instead of the card's own"},
+    {'w', "wait", NULL,
+     "send the same bytes until the card goes on, and show the seconds left each time. On this card a second\n"
+     "                is a sending: no time has to pass"},
     {'x', "hex", NULL, "print each response in hex alone"},
     {'j', "json", NULL, "print JSON, one object a line (docs/JSON.md)"},
     {'q', "request", NULL, "take the messages for requests"},
@@ -33,6 +36,7 @@ static void take(char letter, char *value, options *read)
     case '1': read->set.pin1 = value; break;
     case '2': read->set.pin2 = value; break;
     case 'c': read->set.cvc = value; break;
+    case 'w': read->set.wait = 1; break;
     case 'x': read->set.hex_only = 1; break;
     case 'j': read->set.json = 1; break;
     case 'q': read->kind = EXPLAIN_REQUEST; break;

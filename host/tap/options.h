@@ -11,6 +11,7 @@
 /* An option's letter, by which a command says that it takes it. */
 #define OPTION_SEED "s"
 #define OPTION_CODES "12c"
+#define OPTION_WAIT "w"
 #define OPTION_HEX "x"
 #define OPTION_JSON "j"
 #define OPTION_KINDS "qrk"

@@ -36,30 +36,45 @@ static complaint play_line(played *p, recording_line *from)
         return complain("a recording has at most %d taps", RECORDING_TAPS);
     from->kind = LINE_WHOLE;
     complaint wrong = tapline_read(from, &tap);
-    return wrong ? complain("line %u is no tap: %s", SHEET_LINES + p->taps + 1, wrong) : play_tap(p, &tap);
+    return wrong ? complain("line %u is no tap: %s", p->sheet_lines + p->taps + 1, wrong) : play_tap(p, &tap);
 }
 
-static complaint read_sheet(FILE *in, played *p)
+/* A sheet, as far as it was read. */
+typedef struct {
+    uint8_t text[SHEET_ROOM];
+    size_t length;
+} sheet;
+
+static complaint read_sheet(FILE *in, sheet *s, played *p)
 {
-    uint8_t sheet[SHEET_ROOM];
-    size_t length = 0;
     int c = 0;
-    for (int lines = 0; lines < SHEET_LINES && length < sizeof sheet && (c = getc(in)) != EOF; lines += c == '\n')
-        sheet[length++] = (uint8_t)c;
-    if (length == 0)
+    s->length = 0;
+    for (int lines = 0; lines < SHEET_LINES && s->length < sizeof s->text && (c = getc(in)) != EOF; lines += c == '\n')
+        s->text[s->length++] = (uint8_t)c;
+    if (s->length == 0)
         return complain("is empty: a recording begins with its sheet, so copy the card's sheet there first");
-    complaint wrong = sheet_card(sheet, length, p->image);
-    p->length = (off_t)length;
+    complaint wrong = sheet_card(s->text, s->length, p->image);
+    p->sheet_lines = SHEET_LINES;
+    p->length = (off_t)s->length;
     return wrong ? complain("is no recording: %s", wrong) : NULL;
 }
 
-static complaint play_lines(FILE *in, played *p)
+/* Whether the first line behind the sheet's is one more of them, the pause. */
+static int is_of_sheet(const sheet *s, const recording_line *one, line_kind read, played *p)
+{
+    int is = read == LINE_WHOLE && p->sheet_lines == SHEET_LINES && p->taps == 0 &&
+             sheet_goes_on(s->text, s->length, one->text, one->length, p->image);
+    p->sheet_lines += (uint32_t)is;
+    return is;
+}
+
+static complaint play_lines(FILE *in, const sheet *s, played *p)
 {
     static recording_line one;
     for (line_kind read; (read = line_read(in, one.text, sizeof one.text, &one.length)) != LINE_NONE;) {
         if (read == LINE_LONG)
-            return complain("line %u has more than %d bytes", SHEET_LINES + p->taps + 1, RECORDING_LINE);
-        complaint wrong = play_line(p, &one);
+            return complain("line %u has more than %d bytes", p->sheet_lines + p->taps + 1, RECORDING_LINE);
+        complaint wrong = is_of_sheet(s, &one, read, p) ? NULL : play_line(p, &one);
         if (read == LINE_TORN)
             p->end = wrong ? PLAYED_TORN : PLAYED_UNENDED;
         if (wrong)
@@ -71,15 +86,16 @@ static complaint play_lines(FILE *in, played *p)
 
 complaint played_file(int file, played *p)
 {
+    static sheet s;
     int copy = dup(file);
     FILE *in = copy < 0 ? NULL : fdopen(copy, "r");
     if (!in)
         return complain("cannot be read: %s", strerror(errno));
     p->taps = 0;
     p->end = PLAYED_WHOLE;
-    complaint wrong = read_sheet(in, p);
+    complaint wrong = read_sheet(in, &s, p);
     if (!wrong)
-        wrong = play_lines(in, p);
+        wrong = play_lines(in, &s, p);
     if (ferror(in))
         wrong = complain("cannot be read");
     fclose(in);

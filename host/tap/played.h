@@ -17,7 +17,7 @@ typedef enum {
 } played_end;
 
 typedef struct {
-    uint32_t taps;
+    uint32_t sheet_lines, taps;
     off_t length; /* of the sheet and the taps, with the line feeds that are there */
     uint8_t image[PRACTICE_IMAGE_ROOM], before[PRACTICE_IMAGE_ROOM]; /* the card after the last tap, and before it */
     played_end end;

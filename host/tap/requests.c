@@ -252,6 +252,14 @@ static complaint make_activate(order *o)
     return wrong ? wrong : ended(o, practice_request_activate_card(BUFFER(o), &reset, (practice_bytes){signature, sizeof signature}));
 }
 
+/* ---- no request ---- */
+
+static complaint make_power_off(order *o)
+{
+    o->made->length = 0;
+    return NULL;
+}
+
 /* ---- the words ---- */
 
 static const row rows[] = {
@@ -271,6 +279,7 @@ static const row rows[] = {
     {"write-note", "TEXT [COUNTER]", "WRITE_ISSUER_DATA, signed by the practice issuer", 1, 2, NULL, make_note},
     {"read-note", "", "READ_ISSUER_DATA", 0, 0, practice_request_read_issuer_data, NULL},
     {"activate", "keep|reset", "ACTIVATE_CARD, signed by the practice issuer; reset makes PIN1 000000", 1, 1, NULL, make_activate},
+    {REQUEST_POWER_OFF, "", "no request: the card leaves the field, and forgets the request that waits", 0, 0, NULL, make_power_off},
 };
 #define ROWS (sizeof rows / sizeof *rows)
 
@@ -314,6 +323,11 @@ int request_is_issued(const char *word)
 {
     const row *r = row_of(word);
     return r && (r->make == make_note || r->make == make_activate);
+}
+
+int request_is_power_off(const char *word)
+{
+    return strcmp(word, REQUEST_POWER_OFF) == 0;
 }
 
 complaint request_make(const request_source *from, size_t count, char *const *words, request *made)

@@ -34,6 +34,10 @@ int request_is_word(const char *word);
 /* Whether the practice issuer signs what this word sends, so that making its request uses the seed's keys. */
 int request_is_issued(const char *word);
 
+/* The word that sends nothing, but takes the card's power away. Its request has no bytes. */
+#define REQUEST_POWER_OFF "power-off"
+int request_is_power_off(const char *word);
+
 /* The words that there are, a line each. */
 void request_help(FILE *out);
 

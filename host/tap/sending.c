@@ -37,22 +37,40 @@ static complaint make_request(desk *d, size_t count, char *const *words, tap *t)
     complaint wrong = seed_draw(d->set->keys, d->taps + 1, t->draw);
     if (!wrong && d->path && request_is_issued(words[0]))
         wrong = about(d, card_use_keys(&d->c, d->set->keys));
-    memcpy(t->before, d->c.image, practice_image_length());
+    t->again = 0;
+    t->off = request_is_power_off(words[0]);
+    if (t->off && d->to)
+        return complain("a recording has no power-off");
     return wrong ? wrong : request_make(&from, count, words, &t->sent);
 }
 
 /* The tap in memory: nothing is stored yet. */
-static complaint answer(desk *d, size_t count, char *const *words, tap *t)
+static complaint answer(desk *d, tap *t)
 {
-    complaint wrong = make_request(d, count, words, t);
-    if (wrong)
-        return wrong;
     const request *sent = &t->sent;
-    wrong = d->path ? card_answer(&d->c, d->set->keys, sent->bytes, sent->length, t->draw, &t->got)
-                    : exchange_tap(d->c.image, sent->bytes, sent->length, t->draw, d->set->keys, &t->got);
+    memcpy(t->before, d->c.image, practice_image_length());
+    if (t->off)
+        return about(d, exchange_power_off(d->c.image, &t->got));
+    complaint wrong = d->path ? card_answer(&d->c, d->set->keys, sent->bytes, sent->length, t->draw, &t->got)
+                              : exchange_tap(d->c.image, sent->bytes, sent->length, t->draw, d->set->keys, &t->got);
     if (wrong)
         return about(d, wrong);
     return d->to ? recorder_takes(t, d->taps + 1) : NULL;
+}
+
+/* The card moves on. A power-off is no tap, and takes no draw. */
+static void move_on(desk *d, const tap *t)
+{
+    memcpy(d->c.image, t->got.next, practice_image_length());
+    d->taps += !t->off;
+}
+
+static complaint answer_alone(desk *d, tap *t)
+{
+    complaint wrong = answer(d, t);
+    if (!wrong)
+        move_on(d, t);
+    return wrong;
 }
 
 /* The line before the card: see recorder.h. */
@@ -67,20 +85,50 @@ static complaint store_both(desk *d, const tap *t)
     return wrong;
 }
 
-static complaint make_tap(desk *d, size_t count, char *const *words, tap *t)
+static complaint make_tap(desk *d, tap *t)
 {
-    complaint wrong = answer(d, count, words, t);
+    complaint wrong = answer(d, t);
     if (!wrong && d->path)
         wrong = about(d, card_bind(&d->c, d->set->keys));
     if (wrong)
         return wrong;
     if ((wrong = store_both(d, t)) && d->path && !card_holds(&d->c, t->got.next))
         card_unbind(&d->c);
-    if (wrong)
-        return wrong;
-    memcpy(d->c.image, t->got.next, practice_image_length());
-    d->taps++;
-    return NULL;
+    if (!wrong)
+        move_on(d, t);
+    return wrong;
+}
+
+/* ---- one request ---- */
+
+static int goes_again(const desk *d, const tap *t)
+{
+    return d->set->wait && t->got.word == PRACTICE_SW_NEED_PAUSE;
+}
+
+/* Where the user waits for the card: the same bytes again, each time under a draw of its own, until the card goes on. The card is locked
+ * meanwhile: another process's request would make it wait anew, and two that wait would do so for ever. */
+static complaint send_request(desk *d, size_t count, char *const *words, tap *t, complaint (*send)(desk *, tap *))
+{
+    complaint wrong = make_request(d, count, words, t);
+    if (!wrong)
+        wrong = send(d, t);
+    while (!wrong && goes_again(d, t)) {
+        t->again = 1;
+        wrong = seed_draw(d->set->keys, d->taps + 1, t->draw);
+        if (!wrong)
+            wrong = send(d, t);
+    }
+    return wrong;
+}
+
+/* All but the last of the sendings of a request are shown at once, the last by who let go of the lock. */
+static complaint make_and_show(desk *d, tap *t)
+{
+    complaint wrong = make_tap(d, t);
+    if (!wrong && goes_again(d, t))
+        show_tap(d->set, !d->shown++, t);
+    return wrong;
 }
 
 /* ---- the requests of a batch ---- */
@@ -104,21 +152,18 @@ static complaint answer_all(desk copy, batch all)
 {
     static tap t;
     char **words;
-    for (size_t count; (count = batch_next(&all, &words)) > 0; copy.taps++) {
-        complaint wrong = answer(&copy, count, words, &t);
-        if (wrong)
-            return wrong;
-        memcpy(copy.c.image, t.got.next, practice_image_length());
-    }
-    return NULL;
+    complaint wrong = NULL;
+    for (size_t count; !wrong && (count = batch_next(&all, &words)) > 0;)
+        wrong = send_request(&copy, count, words, &t, answer_alone);
+    return wrong;
 }
 
-/* Several requests are first answered on a copy of the card: where one of them is wrong, none is tapped. */
+/* Several taps are first made on a copy of the card: where one of them is wrong, none is made. */
 static complaint try_all(desk *d, batch all)
 {
     char **words;
     batch rest = all;
-    if (batch_next(&rest, &words) == 0 || batch_next(&rest, &words) == 0)
+    if (batch_next(&rest, &words) == 0 || (batch_next(&rest, &words) == 0 && !d->set->wait))
         return NULL;
     complaint wrong = open_card(d);
     if (!wrong) {
@@ -136,7 +181,7 @@ static complaint tap_all(desk *d, batch all)
     for (size_t count; !wrong && (count = batch_next(&all, &words)) > 0;) {
         if ((wrong = open_card(d)))
             break;
-        wrong = make_tap(d, count, words, &t);
+        wrong = send_request(d, count, words, &t, make_and_show);
         close_card(d);
         if (!wrong)
             show_tap(d->set, !d->shown++, &t);
@@ -213,7 +258,7 @@ complaint record_requests(const settings *set, const char *from, const char *fil
     wrong = sheet_card(bytes, length, d.c.image);
     if (!wrong)
         return record_sheet(&d, bytes, length, file, count, arguments);
-    if (length != practice_image_length() && !image_lacks_seed(bytes, length))
+    if (length != practice_image_length() && !image_of_before(bytes, length))
         return complain("%s: %s", from, wrong);
     d.path = from;
     return record_card(&d, file, count, arguments);

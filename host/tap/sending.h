@@ -10,6 +10,7 @@
 typedef struct {
     seed keys;
     const char *pin1, *pin2, *cvc;
+    int wait;     /* send the same bytes until the card goes on */
     int hex_only; /* print the response alone */
     int json;     /* print each tap as an object */
 } settings;

@@ -11,6 +11,7 @@
 #include "words.h"
 
 #define STATUS_WORD 2
+#define PAUSE_AT 2 /* behind its tag and its length */
 #define NO_RESPONSE "the answers do not fit the questions: no response, and no change"
 
 /* ---- words ---- */
@@ -22,18 +23,22 @@ void show_hex(char mark, const uint8_t *bytes, size_t length)
     putchar('\n');
 }
 
-void show_lines(const tap *t)
+static void show_answer(const tap *t)
 {
-    show_hex('>', t->sent.bytes, t->sent.length);
-    if (t->got.response_len == 0) {
-        puts("< 4\n   4     " NO_RESPONSE);
-        return;
-    }
     show_hex('<', t->got.response, t->got.response_len);
     response_print(stdout, t->sent.bytes, t->sent.length, t->got.response, t->got.response_len);
     if (t->got.reason != 0)
         response_print_check(stdout, t->got.reason);
     changes_print(stdout, t->before, t->got.next);
+}
+
+void show_lines(const tap *t)
+{
+    show_hex('>', t->sent.bytes, t->sent.length);
+    if (t->got.response_len == 0)
+        puts("< 4\n   4     " NO_RESPONSE);
+    else
+        show_answer(t);
 }
 
 /* ---- JSON ---- */
@@ -78,11 +83,30 @@ void show_members(const tap *t)
 
 /* ---- either ---- */
 
-static void show_words(int first, const tap *t)
+/* A sending that had to wait, of several: the response is the field Pause, two bytes, and the word. */
+static void show_wait(const tap *t)
 {
-    fputs(first ? "" : "\n", stdout);
-    puts(words_command(t->sent.bytes, t->sent.length));
-    show_lines(t);
+    fputs("< ", stdout);
+    hex_print(stdout, t->got.response, t->got.response_len);
+    printf("  %s left\n", value_meaning(VALUE_PAUSE, value_number(t->got.response + PAUSE_AT, 2)));
+}
+
+static void show_words(const settings *set, int first, const tap *t)
+{
+    if (!t->again) {
+        fputs(first ? "" : "\n", stdout);
+        puts(t->off ? REQUEST_POWER_OFF : words_command(t->sent.bytes, t->sent.length));
+    }
+    if (t->off) {
+        changes_print(stdout, t->before, t->got.next);
+        return;
+    }
+    if (!t->again)
+        show_hex('>', t->sent.bytes, t->sent.length);
+    if (set->wait && t->got.word == PRACTICE_SW_NEED_PAUSE)
+        show_wait(t);
+    else
+        show_answer(t);
 }
 
 static void show_check(uint8_t reason)
@@ -96,6 +120,15 @@ static void show_check(uint8_t reason)
     putchar('}');
 }
 
+/* The members of a tap, and of these only what a power-off has. */
+static void show_off(const tap *t)
+{
+    fputs("{\"command\":\"" REQUEST_POWER_OFF "\",\"request\":null,\"response\":null,\"word\":null,\"status\":null,\"meaning\":null,\"fields\":[]", stdout);
+    fputs(",\"changed\":", stdout);
+    changes_json(stdout, t->before, t->got.next);
+    puts(",\"draw\":null,\"check\":null}");
+}
+
 static void show_object(const tap *t)
 {
     putchar('{');
@@ -106,13 +139,13 @@ static void show_object(const tap *t)
 
 void show_tap(const settings *set, int first, const tap *t)
 {
-    if (set->hex_only) {
+    if (set->hex_only && !t->off) {
         hex_print(stdout, t->got.response, t->got.response_len);
         putchar('\n');
     } else if (set->json) {
-        show_object(t);
-    } else {
-        show_words(first, t);
+        (t->off ? show_off : show_object)(t);
+    } else if (!set->hex_only) {
+        show_words(set, first, t);
     }
     fflush(stdout);
 }

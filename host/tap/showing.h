@@ -9,6 +9,8 @@
 /* A tap that was made: what was sent, and what came of it. */
 typedef struct {
     uint8_t before[PRACTICE_IMAGE_ROOM]; /* the card that was tapped; got.next is the one after */
+    int off;   /* no tap: the card's power went off */
+    int again; /* the bytes of the tap before, sent again since the card had them wait */
     request sent;
     uint8_t draw[PRACTICE_DRAW];
     exchange got;
@@ -24,7 +26,8 @@ void show_hex(char mark, const uint8_t *bytes, size_t length);
 /* The members of a tap's JSON object that a play has too, without the braces. */
 void show_members(const tap *t);
 
-/* Prints the tap as the settings want it. All but the first of several are set off by an empty line. */
+/* Prints the tap as the settings want it. All but the first of several are set off by an empty line. In words, where the user waits for
+ * the card, the sendings of the same bytes stand together: a line for each that had to wait, with the seconds left, and then the last. */
 void show_tap(const settings *set, int first, const tap *t);
 
 #endif

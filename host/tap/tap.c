@@ -113,6 +113,14 @@ static complaint run_send(const options *given, size_t count, char **operands)
     return send_requests(&given->set, operands[0], count - 1, operands + 1);
 }
 
+/* As a word among requests, so that it is shown as there. */
+static complaint run_power_off(const options *given, size_t count, char **operands)
+{
+    char *word[] = {REQUEST_POWER_OFF};
+    (void)count;
+    return send_requests(&given->set, operands[0], 1, word);
+}
+
 static complaint run_record(const options *given, size_t count, char **operands)
 {
     return record_requests(&given->set, operands[0], operands[1], count - 2, operands + 2);
@@ -130,7 +138,7 @@ static complaint run_told(const options *given, size_t count, char **operands)
 }
 
 #define MANY SIZE_MAX
-#define SENT OPTION_SEED OPTION_CODES OPTION_HEX OPTION_JSON
+#define SENT OPTION_SEED OPTION_CODES OPTION_WAIT OPTION_HEX OPTION_JSON
 
 typedef struct {
     const char *name, *operands, *meaning, *letters;
@@ -141,6 +149,7 @@ typedef struct {
 static const command commands[] = {
     {"new", "SHEET CARD", "a fresh card file from a personalisation sheet", OPTION_SEED, 2, 2, run_new},
     {"send", "CARD REQUEST..", "send requests, show each response in hex and in words, and what changed", SENT, 1, MANY, run_send},
+    {REQUEST_POWER_OFF, "CARD", "the card leaves the field: the request that waits is forgotten, and stored so", OPTION_JSON, 1, 1, run_power_off},
     {"show", "CARD", "the card's values", OPTION_JSON, 1, 1, run_show},
     {"keys", "CARD", "the public keys of the card and of its issuer", OPTION_SEED, 1, 1, run_keys},
     {"record", "SHEET FILE REQUEST..", "a recording from a fresh card: the sheet, then a line for each tap", SENT, 2, MANY, run_record},
@@ -166,7 +175,7 @@ static void help(const char *name)
     for (size_t at = 0; at < COMMANDS; at++) {
         if (name && strcmp(name, commands[at].name) != 0)
             continue;
-        printf("  tap %-8s%-21s %s\n", commands[at].name, commands[at].operands, commands[at].meaning);
+        printf("  tap %-10s%-21s %s\n", commands[at].name, commands[at].operands, commands[at].meaning);
         letters = name ? commands[at].letters : letters;
         requests |= strstr(commands[at].operands, "REQUEST") != NULL;
     }

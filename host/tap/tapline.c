@@ -6,6 +6,8 @@
 
 #include "hex.h"
 
+#define PAUSE "pause\t"
+
 enum { REQUEST, DRAW, ANSWERS, EXPECTED, FIELDS };
 
 static const char *const names[FIELDS] = {"request", "draw", "answers", "expected response"};
@@ -87,6 +89,8 @@ complaint tapline_read(const recording_line *from, tapline *read)
     complaint wrong = tapline_fault(from);
     if (wrong)
         return wrong;
+    if (from->length >= strlen(PAUSE) && memcmp(from->text, PAUSE, strlen(PAUSE)) == 0)
+        return complain("a pause is the sheet's, as line 15 alone: pause, a tab and a number from 0 to 60 without leading zeros");
     size_t count = cut(from, parts);
     if (count != FIELDS)
         return complain("it has %zu tab%s, and three part its four fields", count - 1, count == 2 ? "" : "s");

@@ -21,6 +21,8 @@
 typedef struct {
     const settings *set;
     FILE *recording;
+    recording_line ahead; /* the line behind a sheet of fourteen lines, until it is read as a tap's */
+    int is_ahead;
     unsigned lines; /* of the recording that have been read */
     unsigned taps, others;
     uint8_t image[PRACTICE_IMAGE_ROOM];
@@ -42,9 +44,23 @@ static void note_bad_line(play *p, const uint8_t *sheet, size_t length, const re
 
 static int next_line(play *p, recording_line *read)
 {
-    read->kind = line_read(p->recording, read->text, sizeof read->text, &read->length);
+    if (p->is_ahead)
+        *read = p->ahead;
+    else
+        read->kind = line_read(p->recording, read->text, sizeof read->text, &read->length);
+    p->is_ahead = 0;
     p->lines += read->kind != LINE_NONE;
     return read->kind != LINE_NONE;
+}
+
+/* The line behind fourteen good ones is the sheet's where it is a pause, else it waits to be read as a tap's. */
+static void read_pause(play *p, const uint8_t *sheet, size_t length)
+{
+    recording_line *one = &p->ahead;
+    if (!next_line(p, one) || (one->kind == LINE_WHOLE && sheet_goes_on(sheet, length, one->text, one->length, p->image)))
+        return;
+    p->is_ahead = 1;
+    p->lines--;
 }
 
 static void read_sheet(play *p)
@@ -61,6 +77,8 @@ static void read_sheet(play *p)
     p->bad_line = practice_personalise(sheet, length, p->image, sizeof p->image);
     if (p->bad_line != 0)
         note_bad_line(p, sheet, length, lines);
+    else
+        read_pause(p, sheet, length);
 }
 
 /* ---- a bad line ---- */

@@ -124,5 +124,6 @@ def requests_of(sheet: pathlib.Path) -> tuple:
         made(READ_USER_DATA, *access, form=long_lc),
         made(READ_CARD, (0x10, bytes(32)), form=long_lc),
         b"\0\xf2\0\0\0",
+        *[made(READ_CARD, *access, form=long_lc)] * 2,  # the wrong PIN1 costs a second, and so a sending
     ]
     return short, extended

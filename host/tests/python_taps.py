@@ -4,42 +4,24 @@ before the name of each check. Needs the standard library alone, so that any Pyt
 import os
 import re
 import signal
-import sys
-import threading
 
+from python_way import SHEET, WAY, Given, at_once, named, raised
 from reasons import REASONS
-from recordings import SHEET_LINES
-from rig import ROOT, SHEETS, check, end, fields, same
+from rig import ROOT, check, end, fields, same
 
-sys.path.insert(0, str(ROOT / "host" / "python"))
 import merelstof
 from merelstof import BadSheet, Card, MadeUp, NoTap, NotACard, WrongAnswers, WrongDraw, create_wallet, read_card, sha256, sign
 from merelstof.library import Loaded, Served, library
-from twin import card as twin
-from twin.chance import Chance, any_card
-from twin.chance_requests import any_request
+from twin import bench, card as twin
+from twin.chance import Chance
+from twin.chance_requests import next_request
 from twin.chance_sheets import damaged_sheet, good_sheet
-from twin.histories import answers_by_chance, lent_by_chance
+from twin.histories import answers_by_chance, damaged_image, first_card, lent_by_chance
 from twin.image import decode, encode
-from twin.recording import lines_of, parts_of
+from twin.reached_delay import Paced
+from twin.recording import lines_of, parts_of, sheet_length
 
 TAPS = int(os.environ.get("TAPS", "600"))
-WAY = os.environ["MERELSTOF_WAY"]
-SHEET = SHEETS["secp256k1"].read_text()
-
-
-class Given(merelstof.Provider):
-    """Answers with bytes that were there before, and keeps what was asked."""
-
-    answers, asked = b"", None
-
-    def answer(self, questions):
-        self.asked = questions
-        return self.answers
-
-
-def named(words: str) -> str:
-    return f"{WAY}: {words}"
 
 
 def tapped(card: Card, request: bytes, draw: bytes) -> tuple:
@@ -53,17 +35,17 @@ def tapped(card: Card, request: bytes, draw: bytes) -> tuple:
 
 def lessons():
     for path in sorted((ROOT / "lessons").glob("*.rec")):
-        lines = lines_of(path.read_bytes())
-        provider = Given()
-        card = Card.from_sheet(b"".join(lines[:SHEET_LINES]), provider)
+        lines, provider = lines_of(path.read_bytes()), Given()
+        sheet, taps = lines[: sheet_length(lines)], lines[sheet_length(lines) :]
+        card = Card.from_sheet(b"".join(sheet), provider)
         image, different = card.image, []
-        for number, line in enumerate(lines[SHEET_LINES:], 1):
+        for number, line in enumerate(taps, 1):
             request, draw, provider.answers, expected = parts_of(line)
             settled = twin.settle(image, request, draw, provider.answers)
             image = settled.image or image
             if (*tapped(card, request, draw), card.image) != (expected, settled.reason, image):
                 different.append(number)
-        check(named(f"{path.stem}: {len(lines) - SHEET_LINES} taps as they were recorded"), len(lines) > 20 and not different, str(different))
+        check(named(f"{path.stem}: {len(taps)} taps as they were recorded"), len(taps) > 6 and not different, str(different))
 
 
 # ---------------------------------------------------------------- by chance
@@ -86,7 +68,7 @@ def response_of(response) -> dict:
 
 def one_tap(chance: Chance, image: bytes, reached: set) -> bytes:
     """A tap by the package and by the twin; the image that it left."""
-    request, lent, provider = any_request(chance, decode(image)), lent_by_chance(chance, image), Given()
+    request, lent, provider = next_request(chance, decode(image)), lent_by_chance(chance, image), Given()
     asked = twin.ask(lent.image, request, lent.draw)
     provider.answers = answers_by_chance(chance, asked.questions)
     settled = twin.settle(lent.image, request, lent.draw, provider.answers)
@@ -99,26 +81,56 @@ def one_tap(chance: Chance, image: bytes, reached: set) -> bytes:
         assert response_of(response) == fields(settled.response), "the fields"
         assert asked_again(provider.asked) == asked.questions, "the questions"
         assert (response.reason, response.why) == (settled.reason, REASONS.get(settled.reason, "")), "the reason, or its words"
-        assert response.ok == (settled.reason == 0) == (not response.refused), "ok and refused"
+        waits = settled.word == 0x9789
+        assert (response.refused, response.paused) == (settled.reason > 0, waits), "refused, or paused"
+        assert response.ok == (not response.refused and not response.paused), "ok"
+        assert response.seconds_left == (decode(settled.image).seconds_left if waits else None), "the seconds left"
     except NoTap as why:
         number = why.number
-        assert number in (1, 3) or card.image == image, "the image after no tap"
+        assert number in (1, 3) or card.image == lent.image, "the image after no tap"
     assert number == settled.number, f"number {number} for {settled.number}"
     reached |= {("number", number), ("reason", settled.reason)}
+    if number == 0:
+        reached.add(("pace", pace(Paced(decode(lent.image), request, settled))))
     return settled.image or image
+
+
+def pace(tap: Paced) -> str:
+    if tap.waits:
+        return "waits on" if tap.again else "waits"
+    if tap.refused:
+        return "counted" if tap.counted else "refused"
+    return "goes on"
+
+
+def power_off(chance: Chance, image: bytes, reached: set) -> bytes:
+    """The image that a power-off left, by the package and by the twin."""
+    lent = damaged_image(chance, image) if chance.often(0.3) else image
+    expected = twin.power_off(lent)
+    assert library().power_off(lent) == (expected.number, expected.image or b""), "the number of a power-off, or its image"
+    if expected.number:
+        reached.add(("power-off", "no card"))
+        return image
+    card = Card.from_image(lent, Given())
+    card.power_off()
+    assert card.image == expected.image, "the image after a power-off"
+    reached.add(("power-off", "with a request" if decode(lent).held_request else "without"))
+    return expected.image
 
 
 def by_chance():
     chance, reached, image = Chance("python"), set(), b""
     for at in range(TAPS):
         if at % 30 == 0:
-            image = encode(any_card(chance))
+            image = encode(first_card(chance))
         try:
-            image = one_tap(chance, image, reached)
+            image = (power_off if chance.often(0.08) else one_tap)(chance, image, reached)
         except AssertionError as differs:
             check(named(f"tap {at} by chance"), False, f"{differs}")
             return
     wanted = {("number", number) for number in (0, 1, 3, 4)} | {("reason", reason) for reason in (0, *REASONS)}
+    wanted |= {("pace", what) for what in ("waits", "waits on", "counted", "refused", "goes on")}
+    wanted |= {("power-off", what) for what in ("with a request", "without", "no card")}
     check(named(f"{TAPS} taps by chance as the twin answers"), reached == wanted, f"not reached: {sorted(wanted - reached)}")
 
 
@@ -139,15 +151,6 @@ def sheets_by_chance():
 # ---------------------------------------------------------------- bad input
 
 
-def raised(kind, call, *given) -> str:
-    """What is said, where this kind and no other is raised."""
-    try:
-        call(*given)
-    except Exception as why:
-        return str(why) if type(why) is kind else f"{type(why).__name__}: {why}"
-    return "nothing was raised"
-
-
 def bad_lines():
     """Each line bad in turn: its number is said, and the name with which the line has to begin."""
     lines = SHEET.splitlines(keepends=True)
@@ -155,8 +158,16 @@ def bad_lines():
         said = raised(BadSheet, Card.from_sheet, "".join([*lines[: number - 1], line.replace("\t", " "), *lines[number:]]), MadeUp())
         wanted = rf"line {number} is bad; it has to be {line.split()[0]}, a tab and [\w ]+, ended by a line feed"
         check(named(f"a sheet with line {number} bad"), re.fullmatch(wanted, said), said)
-    same(named("a sheet with a line too many"), raised(BadSheet, Card.from_sheet, SHEET + "\n", MadeUp()),
-         "line 15 is bad; it has to be nothing after line 14")
+    for more in ("\n", "pause\t61\n", "pause\t05\n", "pause\t\n", "pause\t3", "pause 3\n", "Pause\t3\n", "uid\t00\n"):
+        same(named(f"a sheet with {more!r} after it"), raised(BadSheet, Card.from_sheet, SHEET + more, MadeUp()),
+             "line 15 is bad; it has to be nothing, or pause, a tab and a number from 0 to 60 without leading zeros, ended by a line feed")
+    for more in ("\n", "pause\t3\n"):
+        same(named(f"a sheet with a pause and {more!r}"), raised(BadSheet, Card.from_sheet, f"{SHEET}pause\t3\n{more}", MadeUp()),
+             "line 16 is bad; it has to be nothing after line 15")
+    fresh = Card.from_sheet(SHEET, MadeUp()).image
+    for pause in (0, 1, 59, 60):
+        card = Card.from_sheet(f"{SHEET}pause\t{pause}\n", MadeUp())
+        same(named(f"a sheet with a pause of {pause}"), (card.pause, card.image), (pause, fresh[:96] + bytes([pause]) + fresh[97:]))
     same(named("a sheet from before activation"), raised(BadSheet, Card.from_sheet, "".join(lines[:13]), MadeUp()),
          "line 14 is bad; it has to be seed, a tab and 32 hex digits in capitals, ended by a line feed")
     check(named("an empty sheet"), raised(BadSheet, Card.from_sheet, "", MadeUp()).startswith("line 1 is bad"))
@@ -166,10 +177,16 @@ def bad_images():
     image = Card.from_sheet(SHEET, MadeUp()).image
     no_card = "the image is no card (docs/IMAGE.md)"
     for words, wrong in (("none", b""), ("one byte short", image[:-1]), ("one byte long", image + b"\0"), ("long", bytes(100_000)),
-                         ("Status 0", image[:103] + b"\0" + image[104:]), ("zeros", bytes(len(image))),
-                         ("from before activation, without a seed", image[:80] + image[96:]),
-                         ("signatures and no wallet", image[:1804] + b"\1" + b"s" * 64 + image[1869:])):
+                         ("Status 0", image[:104] + b"\0" + image[105:]), ("zeros", bytes(len(image))),
+                         ("a pause of 61", image[:96] + bytes([61]) + image[97:]),
+                         ("61 wrong codes", image[:1805] + bytes([61]) + image[1806:]),
+                         ("a second left, and no request", image[:1806] + b"\1" + image[1807:]),
+                         ("a request, and no second left", image[:1808] + b"\6" + image[1809:]),
+                         ("from before the delay", bench.without(bench.NO_WAIT, image)),
+                         ("from before activation, without a seed", bench.without(bench.NO_SEED, image)),
+                         ("signatures and no wallet", image[:2833] + b"\1" + b"s" * 64 + image[2898:])):
         same(named(f"an image, {words}"), raised(NotACard, Card.from_image, wrong, MadeUp()), no_card)
+        same(named(f"an image, {words}: a power-off"), library().power_off(wrong) if len(wrong) <= 65536 else (1, b""), (1, b""))
     same(named("an image of text"), raised(TypeError, Card.from_image, "card", MadeUp()), "an image is to be bytes, not str")
 
 
@@ -215,11 +232,7 @@ def threads():
         if own.signed_hashes != 10:
             wrong.append(own)
 
-    workers = [threading.Thread(target=work, args=(number,)) for number in range(8)]
-    for worker in workers:
-        worker.start()
-    for worker in workers:
-        worker.join()
+    at_once(work)
     same(named("eight threads on one card, and each on its own"), (wrong, shared.signed_hashes, shared.remaining), ([], 80, 920))
 
 

@@ -93,14 +93,23 @@ void explain_request(FILE *out, message m)
 
 /* ---- responses ---- */
 
+/* The field Pause, all by itself. */
+static int is_pause(message fields)
+{
+    return fields.length == 4 && fields.bytes[0] == 0x1C && fields.bytes[1] == 2;
+}
+
 static void judge_response(FILE *out, message m, size_t end, words_status row)
 {
     int is_done = row.word >= PRACTICE_SW_PROCESS_COMPLETED && row.word <= PRACTICE_SW_PINS_CHANGED;
+    int is_wait = row.word == PRACTICE_SW_NEED_PAUSE;
     if (strcmp(row.name, WORDS_UNKNOWN) == 0)
         page_wrong(out, end, "a response ends with a status word, and this is none of this card's");
+    else if (is_wait && !is_pause(part_of(m, 0, end)))
+        page_wrong(out, 0, "before 9789 this card tells Pause (1C), two bytes, and nothing else");
     else if (is_done && (end == 0 || m.bytes[0] != 0x01))
         page_wrong(out, 0, "a response of this card begins with the CID (01)");
-    else if (!is_done && end > 0)
+    else if (!is_done && !is_wait && end > 0)
         page_wrong(out, 0, "a refusal of this card is its status word alone");
 }
 

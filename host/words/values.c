@@ -21,8 +21,8 @@ uint32_t value_number(const uint8_t *bytes, size_t length)
 
 int value_is_number(value_form form, size_t length)
 {
-    return (form == VALUE_NUMBER && length >= 1 && length <= 4) ||
-           ((form == VALUE_FLAG || form == VALUE_STATUS || form == VALUE_CURVE) && length == 1);
+    return (form == VALUE_NUMBER && length >= 1 && length <= 4) || (form == VALUE_PAUSE && length == 2) ||
+           ((form == VALUE_FLAG || form == VALUE_STATUS || form == VALUE_CURVE || form == VALUE_SECONDS) && length == 1);
 }
 
 void value_put_length(FILE *out, size_t length)
@@ -71,6 +71,26 @@ static void put_pieces(FILE *out, const uint8_t *bytes, size_t length, size_t si
     }
 }
 
+/* With the command's name before its bytes. */
+static void put_request(FILE *out, const uint8_t *bytes, size_t length)
+{
+    value_put_length(out, length);
+    fprintf(out, "  %s  ", words_command(bytes, length));
+    hex_print(out, bytes, length);
+}
+
+/* A card of this kind waits for whole seconds; a message from another may say otherwise. */
+static const char *seconds_of(uint32_t hundredths)
+{
+    static char text[32];
+    uint32_t whole = hundredths / 100, rest = hundredths % 100;
+    if (rest)
+        snprintf(text, sizeof text, "%u.%02u seconds", whole, rest);
+    else
+        snprintf(text, sizeof text, "%u second%s", whole, whole == 1 ? "" : "s");
+    return text;
+}
+
 const char *value_meaning(value_form form, uint32_t number)
 {
     static const char *const flags[] = {"no", "yes"};
@@ -81,6 +101,8 @@ const char *value_meaning(value_form form, uint32_t number)
     case VALUE_FLAG: return number < 2 ? flags[number] : WORDS_UNKNOWN;
     case VALUE_STATUS: return number < 4 ? statuses[number] : WORDS_UNKNOWN;
     case VALUE_CURVE: return number < 3 ? curves[number] : WORDS_UNKNOWN;
+    case VALUE_SECONDS: return number == 1 ? "second" : "seconds";
+    case VALUE_PAUSE: return seconds_of(number);
     default: return NULL;
     }
 }
@@ -107,6 +129,7 @@ void value_put(FILE *out, value_form form, const uint8_t *bytes, size_t length, 
     case VALUE_DATA: put_data(out, bytes, length); break;
     case VALUE_SIGNATURES: put_pieces(out, bytes, length, PROVIDER_SIGNATURE, indent); break;
     case VALUE_HASHES: put_pieces(out, bytes, length, HASH, indent); break;
+    case VALUE_REQUEST: put_request(out, bytes, length); break;
     default: hex_print(out, bytes, length);
     }
 }

@@ -15,8 +15,11 @@ typedef enum {
     VALUE_FLAG,
     VALUE_STATUS,
     VALUE_CURVE,
+    VALUE_SECONDS,
+    VALUE_PAUSE, /* in units of 10 ms */
     VALUE_SIGNATURES,
-    VALUE_HASHES
+    VALUE_HASHES,
+    VALUE_REQUEST
 } value_form;
 
 uint32_t value_number(const uint8_t *bytes, size_t length);
@@ -24,7 +27,7 @@ uint32_t value_number(const uint8_t *bytes, size_t length);
 /* Whether a value of this form and length is a number: a counter, a code for something, a flag. */
 int value_is_number(value_form form, size_t length);
 
-/* The name of a number that stands for something, or NULL where it stands for itself. */
+/* The name of a number that stands for something, or NULL where it stands for itself. It stands until the next call. */
 const char *value_meaning(value_form form, uint32_t number);
 
 /* Prints the value. One of several lines starts the later ones with indent blanks. */

@@ -7,6 +7,7 @@ import java.util.Arrays;
 final class Fields {
     static final int PIN1 = 0x10;
     static final int CID = 0x01;
+    static final int PAUSE = 0x1C;
     static final int ISSUER_DATA = 0x32;
     static final int ISSUER_DATA_SIGNATURE = 0x33;
     static final int ISSUER_DATA_COUNTER = 0x35;

@@ -14,7 +14,10 @@ final class Tablet {
     private static final int READ_ISSUER_DATA = 0xF7;
     private static final int DONE = 0x9000;
     private static final int COUNTER_TOO_LOW = 0x6985;
+    private static final int NEED_PAUSE = 0x9789;
     private static final int TRIES = 5;
+    private static final int SENDINGS = 121; // the longest wait has 120 seconds
+    private static final int BAR = 20;
 
     /** The note on a card. */
     static final class Note {
@@ -40,7 +43,7 @@ final class Tablet {
         this.card = card;
         this.out = out;
         this.pin1 = MessageDigest.getInstance("SHA-256").digest(pin1.getBytes(StandardCharsets.UTF_8));
-        byte[] response = card.transceive(new Fields().put(Fields.PIN1, this.pin1).request(READ_CARD));
+        byte[] response = send(new Fields().put(Fields.PIN1, this.pin1).request(READ_CARD));
         if (Fields.word(response) != DONE) {
             throw new IOException(String.format("the card does not let itself be read: %04X", Fields.word(response)));
         }
@@ -48,12 +51,42 @@ final class Tablet {
         issuer = new Issuer(seed, cid);
     }
 
+    /**
+     * Sends a request, as an app must: where the card makes its holder wait (9789), after a wrong code say, it shows a bar, keeps the
+     * card in the field and sends the same bytes again.
+     */
+    private byte[] send(byte[] apdu) throws IOException {
+        byte[] response = card.transceive(apdu);
+        int seconds = 0;
+        for (int sendings = 1; Fields.word(response) == NEED_PAUSE; sendings++) {
+            if (sendings == SENDINGS) {
+                throw new IOException("the card does not go on: 9789 to the same bytes, sent " + SENDINGS + " times");
+            }
+            int left = secondsLeft(response);
+            seconds = Math.max(seconds, left);
+            showBar(left, seconds);
+            response = card.transceive(apdu);
+        }
+        return response;
+    }
+
+    /** Pause counts in 10 ms. */
+    private static int secondsLeft(byte[] response) {
+        byte[] pause = Fields.find(response, Fields.PAUSE);
+        return pause == null || pause.length != 2 ? 0 : (ByteBuffer.wrap(pause).getShort() & 0xFFFF) / 100;
+    }
+
+    private void showBar(int left, int seconds) {
+        int done = seconds == 0 ? 0 : BAR * (seconds - left) / seconds;
+        out.printf("%s waits [%s%s] %d s left, keep the card here%n", name, "#".repeat(done), ".".repeat(BAR - done), left);
+    }
+
     private Fields access() {
         return new Fields().put(Fields.PIN1, pin1).put(Fields.CID, cid);
     }
 
     Note read() throws IOException {
-        byte[] response = card.transceive(access().request(READ_ISSUER_DATA));
+        byte[] response = send(access().request(READ_ISSUER_DATA));
         if (Fields.word(response) != DONE) {
             throw new IOException(String.format("the note cannot be read: %04X", Fields.word(response)));
         }
@@ -73,7 +106,7 @@ final class Tablet {
     int write(String text, int counter, int signed) throws IOException, GeneralSecurityException {
         byte[] data = text.getBytes(StandardCharsets.UTF_8);
         byte[] signature = issuer.sign(cid, data, bytes(signed));
-        byte[] response = card.transceive(access().put(Fields.ISSUER_DATA, data).put(Fields.ISSUER_DATA_SIGNATURE, signature)
+        byte[] response = send(access().put(Fields.ISSUER_DATA, data).put(Fields.ISSUER_DATA_SIGNATURE, signature)
                 .put(Fields.ISSUER_DATA_COUNTER, bytes(counter)).request(WRITE_ISSUER_DATA));
         int word = Fields.word(response);
         out.printf("%s writes '%s', counter %08X: %04X, %s%n", name, text, counter, word, word == DONE ? "stored" : "NOT stored");

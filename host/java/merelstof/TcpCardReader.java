@@ -81,6 +81,7 @@ public final class TcpCardReader implements CardReader {
         return "the connection to the card broke: " + lost.getMessage();
     }
 
+    /** The card is then out of the field: a request that has to wait is forgotten. */
     @Override
     public void close() throws IOException {
         socket.close();

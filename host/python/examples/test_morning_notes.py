@@ -48,13 +48,24 @@ def test_asking_for_the_last_signatures_again_costs_nothing(wallet):
     assert wallet.image == before
 
 
-def test_a_refusal_uses_nothing_up(wallet):
+def test_a_refusal_uses_nothing_up_but_a_wrong_code_costs_a_second(wallet):
     wallet.tap(sign(wallet, CHECKS))
-    before = wallet.image
     refused = wallet.tap(sign(wallet, CHECKS, pin2=sha256("1234")))
     assert refused.refused and refused.name == "SW_INVALID_PARAMS"
     assert (refused.reason, refused.why) == (10, "PIN2 or the CVC is absent or is not the card's")
-    assert wallet.image == before
+    assert (wallet.remaining, wallet.signed_hashes, wallet.wrong_codes) == (8, 5, 1)
+    again = sign(wallet, CHECKS)
+    assert wallet.tap(again).seconds_left == 1
+    assert wallet.tap(again).ok
+
+
+def test_an_app_that_waits_keeps_the_card_in_the_field():
+    card = Card.from_sheet(SHEET + "pause\t3\n", MadeUp())
+    request = create_wallet(card)
+    assert [card.tap(request).seconds_left for _ in range(2)] == [3, 2]
+    card.power_off()
+    assert card.tap(request).seconds_left == 3
+    assert card.tap(request, wait=True).ok
 
 
 def write_note(card, text, counter):

@@ -24,7 +24,10 @@ SHEET = (
     "replay, a tab and 0 or 1",
     "active, a tab and 0 or 1",
     "seed, a tab and 32 hex digits in capitals",
+    "nothing, or pause, a tab and a number from 0 to 60 without leading zeros",
 )
+
+SENDINGS = 121  # the longest wait has 120 seconds, and is over with the sending after them
 
 
 class BadSheet(ValueError):
@@ -80,7 +83,7 @@ def plain(given, name: str) -> bytes:
 
 
 class Card(View):
-    """A practice card. Its values (status, remaining, signed_hashes ..) are those of docs/IMAGE.md; only a tap changes them.
+    """A practice card. Its values (status, remaining, signed_hashes ..) are those of docs/IMAGE.md; only a tap or a power-off changes them.
 
     The draw of a tap is 32 bytes by chance; where a seed is given, it comes from that and the tap's number, as docs/KEYS.md says.
     """
@@ -111,18 +114,37 @@ class Card(View):
         """The whole card. Keep it, and Card.from_image goes on where this one stands."""
         return self._image
 
-    def tap(self, request: bytes, draw: Optional[bytes] = None) -> Response:
-        """One request. A refusal is a response like any other; where there is none, a NoTap is raised and nothing has changed."""
+    def tap(self, request: bytes, draw: Optional[bytes] = None, wait: bool = False) -> Response:
+        """One request. A refusal is a response like any other; where there is none, a NoTap is raised and nothing has changed.
+
+        After a wrong code, or with a pause on the sheet, the card makes its holder wait: the response is paused, and says how long. With
+        `wait` the same bytes are sent again until it goes on, each time as a tap of its own. On this card a second is a sending, whatever
+        the clock says.
+        """
         request = plain(request, "a request")
         with self._lock:
-            self._taps += 1
-            draw = self._draw() if draw is None else plain(draw, "a draw")
-            asked = self._library.ask(self._image, request, draw)
-            tell(asked.number)
-            answers = plain(self.provider.answer(questions_of(asked.questions, self.cid)), "a provider's answer")
-            settled = self._library.settle(self._image, request, draw, answers)
-            tell(settled.number)
-            self._image = settled.image
+            for _ in range(SENDINGS if wait else 1):
+                response = self._sent(request, draw)
+                if not response.paused:
+                    break
+        return response
+
+    def power_off(self):
+        """The card leaves the field. A request that it holds is forgotten, so that its wait begins anew; wrong codes stay counted."""
+        with self._lock:
+            number, image = self._library.power_off(self._image)
+            tell(number)
+            self._image = image
+
+    def _sent(self, request: bytes, draw: Optional[bytes]) -> Response:
+        self._taps += 1
+        draw = self._draw() if draw is None else plain(draw, "a draw")
+        asked = self._library.ask(self._image, request, draw)
+        tell(asked.number)
+        answers = plain(self.provider.answer(questions_of(asked.questions, self.cid)), "a provider's answer")
+        settled = self._library.settle(self._image, request, draw, answers)
+        tell(settled.number)
+        self._image = settled.image
         return Response(settled.response, request[1] if len(request) > 1 else 0, settled.reason)
 
     def _draw(self) -> bytes:

@@ -1,4 +1,4 @@
-"""The proved library's four calls, in two ways: loaded into this process, or served by another.
+"""The proved library's five calls, in two ways: loaded into this process, or served by another.
 
 The library is x86-64 code. A Python on x86-64 loads it as a shared object; any other talks with `serve`, a small x86-64 program that
 runs under qemu-x86_64. Both ways take and give the same bytes and keep nothing between calls, so that threads may call as they like.
@@ -61,6 +61,7 @@ class Call(NamedTuple):
 
 ASK = Call("practice_ask", b"A", 3, (ROOM,), OUTCOME)
 SETTLE = Call("practice_settle", b"S", 4, (ROOM, IMAGE_ROOM), OUTCOME)
+POWER_OFF = Call("practice_power_off", b"O", 1, (IMAGE_ROOM,), OUTCOME)
 PERSONALISE = Call("practice_personalise", b"P", 1, (IMAGE_ROOM,), NUMBER)
 IMAGE_LENGTH = Call("practice_image_length", b"L", 0, (), NUMBER)
 
@@ -75,6 +76,11 @@ class Library:
     def settle(self, image: bytes, request: bytes, draw: bytes, answers: bytes) -> Settled:
         number, reason, word, length, response, following = self.call(SETTLE, image, request, draw, answers)
         return Settled(number, reason, word, response[:length], following[: self.image_length] if number == 0 else b"")
+
+    def power_off(self, image: bytes) -> tuple:
+        """The number, and with 0 the card's image once its power is off."""
+        number, _, _, _, following = self.call(POWER_OFF, image)
+        return number, following[: self.image_length] if number == 0 else b""
 
     def personalise(self, sheet: bytes) -> tuple:
         """The number of the first bad line, or 0 and the fresh card's image."""
@@ -110,7 +116,7 @@ class Loaded(Library):
             self.code = ctypes.CDLL(str(path))
         except OSError as why:
             raise NoLibrary(f"{path} cannot be loaded: {why}") from None
-        for call in (ASK, SETTLE, PERSONALISE, IMAGE_LENGTH):
+        for call in (ASK, SETTLE, POWER_OFF, PERSONALISE, IMAGE_LENGTH):
             function = getattr(self.code, call.name)
             function.argtypes = [ctypes.c_char_p, ctypes.c_size_t] * (call.given + len(call.rooms))
             function.restype = Result if call.result is OUTCOME else ctypes.c_uint32

@@ -32,6 +32,7 @@ TAGS = {
     0x17: "Salt",
     0x18: "Card_Validation_Counter",
     0x19: "CVC",
+    0x1C: "Pause",
     0x23: "Mode",
     0x2A: "User_Data",
     0x2B: "User_ProtectedData",
@@ -58,6 +59,7 @@ WORDS = {
     0x9001: "SW_PIN1_CHANGED",
     0x9002: "SW_PIN2_CHANGED",
     0x9003: "SW_PINS_CHANGED",
+    0x9789: "SW_NEED_PAUSE",
     0x6286: "SW_ERROR_PROCESSING_COMMAND",
     0x6700: "SW_WRONG_LENGTH",
     0x6982: "SW_NEED_ENCRYPTION",
@@ -86,6 +88,7 @@ REASONS = {
 
 SET_PIN = 0xFA
 DONE = range(0x9000, 0x9004)
+NEED_PAUSE = 0x9789
 
 
 def word_name(word: int, ins: int = 0) -> str:

@@ -2,7 +2,9 @@
 
 from typing import NamedTuple, Optional, Tuple, Union
 
-from .names import DONE, REASONS, TAGS, word_name
+from .names import DONE, NEED_PAUSE, REASONS, TAGS, word_name
+
+UNITS_A_SECOND = 100  # Pause counts in 10 ms
 
 
 class Field(NamedTuple):
@@ -45,9 +47,19 @@ class Response:
         return self.word in DONE
 
     @property
+    def paused(self) -> bool:
+        """Not yet: the card holds the request, and its holder has to wait. The same bytes are to be sent again; `Card.tap` can do that."""
+        return self.word == NEED_PAUSE
+
+    @property
+    def seconds_left(self) -> Optional[int]:
+        """How long, where the response is paused; else None. This card's seconds are whole, another's are rounded up."""
+        return -(-self.number("Pause") // UNITS_A_SECOND) if self.paused and "Pause" in self else None
+
+    @property
     def refused(self) -> bool:
-        """The card is as it was before."""
-        return not self.ok
+        """Nothing was done. The card holds no request now, and may have counted a wrong code; all else is as it was before."""
+        return not self.ok and not self.paused
 
     @property
     def why(self) -> str:
@@ -74,4 +86,5 @@ class Response:
 
     def __repr__(self) -> str:
         check = f", check {self.reason}: {self.why}" if self.reason else ""
-        return f"<Response {self.word:04X} {self.name}{check}{''.join(f', {field}' for field in self.fields)}>"
+        wait = "" if self.seconds_left is None else f", {self.seconds_left} s left"
+        return f"<Response {self.word:04X} {self.name}{check}{wait}{''.join(f', {field}' for field in self.fields)}>"

@@ -3,7 +3,7 @@
 use merelstof::{Card, MadeUp};
 use std::io::Read;
 
-const IMAGE: usize = 2445;
+const IMAGE: usize = 3474;
 
 fn main() {
     let mut images = Vec::new();
@@ -25,6 +25,7 @@ fn show(card: &Card<MadeUp>) {
     println!("curve {:?}", view.curve());
     println!("max_signatures {}", view.max_signatures());
     println!("activation_seed {}", hex(view.activation_seed()));
+    println!("pause {}", view.pause());
     println!("reusable {}", view.reusable());
     println!("cvc_used {}", view.cvc_used());
     println!("pin1_may_change {}", view.pin1_may_change());
@@ -46,6 +47,9 @@ fn show(card: &Card<MadeUp>) {
     println!("issuer_data {}", hex(view.issuer_data()));
     println!("issuer_data_signature {}", hex(view.issuer_data_signature()));
     println!("issuer_data_counter {}", view.issuer_data_counter());
+    println!("wrong_codes {}", view.wrong_codes());
+    println!("seconds_left {}", view.seconds_left());
+    println!("held_request {}", hex(view.held_request()));
     println!("last_signatures {}", hex(view.last_signatures()));
 }
 

@@ -7,8 +7,8 @@ use std::io::Read;
 fn five_hashes(sheet: &str) -> Result<(Card<MadeUp>, Response), Error> {
     let mut card = Card::from_sheet(sheet, MadeUp::default())?;
     let codes = card.codes();
-    card.tap(&create_wallet(&codes))?;
-    let signed = card.tap(&sign(&codes, &[[1; 32], [2; 32], [3; 32], [4; 32], [5; 32]]))?;
+    card.tap_waiting(&create_wallet(&codes))?;
+    let signed = card.tap_waiting(&sign(&codes, &[[1; 32], [2; 32], [3; 32], [4; 32], [5; 32]]))?;
     Ok((card, signed))
 }
 

@@ -28,6 +28,7 @@ extern "C" {
         image: *const u8, image_len: usize, request: *const u8, request_len: usize, draw: *const u8, draw_len: usize,
         answers: *const u8, answers_len: usize, response: *mut u8, response_len: usize, next: *mut u8, next_len: usize,
     ) -> Outcome;
+    fn practice_power_off(image: *const u8, image_len: usize, next: *mut u8, next_len: usize) -> Outcome;
     fn practice_personalise(sheet: *const u8, sheet_len: usize, image: *mut u8, image_len: usize) -> u32;
     fn practice_image_length() -> u32;
 }
@@ -71,6 +72,16 @@ pub fn settle(image: &[u8], request: &[u8], draw: &[u8; DRAW], answers: &[u8]) -
     response.truncate(settled.written()?);
     next.truncate(image_length());
     Ok((response, settled.reason, next))
+}
+
+/// The image once the card's power is off, or the number that says why there is none.
+pub fn power_off(image: &[u8]) -> Result<Vec<u8>, u8> {
+    let mut next = vec![0; IMAGE_ROOM];
+    // Sound as said above.
+    let outcome = unsafe { practice_power_off(image.as_ptr(), image.len(), next.as_mut_ptr(), next.len()) };
+    outcome.written()?;
+    next.truncate(image_length());
+    Ok(next)
 }
 
 /// The fresh card of a sheet, or the number of its first bad line.

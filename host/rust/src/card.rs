@@ -6,6 +6,8 @@ use crate::response::Response;
 use crate::view::View;
 use crate::{calls, Error};
 
+const LONGEST_WAIT: u32 = 120; // seconds
+
 /// A practice card. The library keeps nothing: the image is the card.
 #[derive(Clone, Debug)]
 pub struct Card<P> {
@@ -28,6 +30,9 @@ impl<P: Provider> Card<P> {
     }
 
     /// One request. A refusal is a response like any other; an error means that there was no tap, and nothing has changed.
+    ///
+    /// After a wrong code, or with a pause on the sheet, the card makes its holder wait: the response is
+    /// [`paused`](Response::paused), and says how long.
     pub fn tap(&mut self, request: &[u8]) -> Result<Response, Error> {
         let draw = self.provider.draw();
         let asked = calls::ask(&self.image, request, &draw).map_err(Error::of)?;
@@ -36,6 +41,25 @@ impl<P: Provider> Card<P> {
         let (response, reason, next) = calls::settle(&self.image, request, &draw, &answers).map_err(Error::of)?;
         self.image = next;
         Ok(Response::new(response, request.get(1).copied().unwrap_or(0), reason))
+    }
+
+    /// One request, sent again as long as the card makes its holder wait, each time as a tap of its own. On this card a second is a
+    /// sending, whatever the clock says.
+    pub fn tap_waiting(&mut self, request: &[u8]) -> Result<Response, Error> {
+        let mut response = self.tap(request)?;
+        for _ in 0..LONGEST_WAIT {
+            if !response.paused() {
+                break;
+            }
+            response = self.tap(request)?;
+        }
+        Ok(response)
+    }
+
+    /// The card leaves the field. A request that it holds is forgotten, so that its wait begins anew; wrong codes stay counted.
+    pub fn power_off(&mut self) -> Result<(), Error> {
+        self.image = calls::power_off(&self.image).map_err(Error::of)?;
+        Ok(())
     }
 }
 

@@ -4,7 +4,7 @@ use std::fmt;
 
 #[derive(Clone, Copy, Debug, PartialEq, Eq)]
 pub enum Error {
-    /// The first bad line of a personalisation sheet, from 1; 15 where something follows line 14.
+    /// The first bad line of a personalisation sheet, from 1; 15 where what follows line 14 is no pause, 16 where something follows that.
     BadSheet(u32),
     /// Number 1 of the library: the image is no card (docs/IMAGE.md).
     NotACard,
@@ -14,7 +14,7 @@ pub enum Error {
     OtherLibrary(u8),
 }
 
-const SHEET: [&str; 14] = [
+const SHEET: [&str; 15] = [
     "cid, a tab and 16 hex digits in capitals",
     "pin1, a tab and 64 hex digits in capitals",
     "pin2, a tab and 64 hex digits in capitals",
@@ -29,6 +29,7 @@ const SHEET: [&str; 14] = [
     "replay, a tab and 0 or 1",
     "active, a tab and 0 or 1",
     "seed, a tab and 32 hex digits in capitals",
+    "nothing, or pause, a tab and a number from 0 to 60 without leading zeros",
 ];
 
 impl Error {

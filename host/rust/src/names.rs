@@ -16,7 +16,7 @@ const COMMANDS: [(u8, &str); 13] = [
     (0xFE, "ACTIVATE_CARD"),
 ];
 
-const TAGS: [(u8, &str); 33] = [
+const TAGS: [(u8, &str); 34] = [
     (0x01, "CID"),
     (0x02, "Status"),
     (0x04, "Card_Signature"),
@@ -31,6 +31,7 @@ const TAGS: [(u8, &str); 33] = [
     (0x17, "Salt"),
     (0x18, "Card_Validation_Counter"),
     (0x19, "CVC"),
+    (0x1C, "Pause"),
     (0x23, "Mode"),
     (0x2A, "User_Data"),
     (0x2B, "User_ProtectedData"),
@@ -52,11 +53,12 @@ const TAGS: [(u8, &str); 33] = [
     (0x64, "Check_Wallet_Counter"),
 ];
 
-const WORDS: [(u16, &str); 11] = [
+const WORDS: [(u16, &str); 12] = [
     (0x9000, "SW_PROCESS_COMPLETED"),
     (0x9001, "SW_PIN1_CHANGED"),
     (0x9002, "SW_PIN2_CHANGED"),
     (0x9003, "SW_PINS_CHANGED"),
+    (0x9789, "SW_NEED_PAUSE"),
     (0x6286, "SW_ERROR_PROCESSING_COMMAND"),
     (0x6700, "SW_WRONG_LENGTH"),
     (0x6982, "SW_NEED_ENCRYPTION"),

@@ -3,6 +3,9 @@
 use crate::names;
 use crate::view::number;
 
+const NEED_PAUSE: u16 = 0x9789;
+const UNITS_A_SECOND: u32 = 100; // Pause counts in 10 ms
+
 #[derive(Clone, Debug, PartialEq, Eq)]
 pub struct Field {
     pub tag: u8,
@@ -33,9 +36,20 @@ impl Response {
         (0x9000..=0x9003).contains(&self.word)
     }
 
-    /// The card is as it was before.
+    /// Not yet: the card holds the request, and its holder has to wait. The same bytes are to be sent again;
+    /// [`Card::tap_waiting`](crate::Card::tap_waiting) does that.
+    pub fn paused(&self) -> bool {
+        self.word == NEED_PAUSE
+    }
+
+    /// How long, where the response is paused.
+    pub fn seconds_left(&self) -> Option<u32> {
+        self.number("Pause").filter(|_| self.paused()).map(|units| units / UNITS_A_SECOND)
+    }
+
+    /// Nothing was done. The card holds no request now, and may have counted a wrong code; all else is as it was before.
     pub fn refused(&self) -> bool {
-        !self.ok()
+        !self.ok() && !self.paused()
     }
 
     /// The reason in words; none where it is 0.

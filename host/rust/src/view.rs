@@ -44,7 +44,8 @@ const CVC: Place = CID.then(3);
 const CURVE: Place = CVC.then(1);
 const MAX_SIGNATURES: Place = CURVE.then(4);
 const ACTIVATION_SEED: Place = MAX_SIGNATURES.then(16);
-const REUSABLE: Place = ACTIVATION_SEED.then(1);
+const PAUSE: Place = ACTIVATION_SEED.then(1);
+const REUSABLE: Place = PAUSE.then(1);
 const CVC_USED: Place = REUSABLE.then(1);
 const PIN1_MAY_CHANGE: Place = CVC_USED.then(1);
 const PIN2_MAY_CHANGE: Place = PIN1_MAY_CHANGE.then(1);
@@ -65,7 +66,10 @@ const USER_PROTECTED_DATA: Place = USER_DATA.then(2 + 512);
 const ISSUER_DATA: Place = USER_PROTECTED_DATA.then(2 + 512);
 const ISSUER_DATA_SIGNATURE: Place = ISSUER_DATA.then(64);
 const ISSUER_DATA_COUNTER: Place = ISSUER_DATA_SIGNATURE.then(4);
-const LAST_SIGNATURES: Place = ISSUER_DATA_COUNTER.then(1 + 10 * 64);
+const WRONG_CODES: Place = ISSUER_DATA_COUNTER.then(1);
+const SECONDS_LEFT: Place = WRONG_CODES.then(1);
+const HELD_REQUEST: Place = SECONDS_LEFT.then(2 + 1024);
+const LAST_SIGNATURES: Place = HELD_REQUEST.then(1 + 10 * 64);
 
 /// What an image tells. Only an image that is a card has a view: a `Card` gives it.
 #[derive(Clone, Copy, Debug)]
@@ -125,6 +129,11 @@ impl<'a> View<'a> {
     /// For good, though READ_CARD tells it only until the card is activated.
     pub fn activation_seed(self) -> &'a [u8] {
         self.at(ACTIVATION_SEED)
+    }
+
+    /// The seconds that a command which needs PIN2 has to wait, 0 to 60.
+    pub fn pause(self) -> u32 {
+        self.number(PAUSE)
     }
 
     pub fn reusable(self) -> bool {
@@ -209,6 +218,21 @@ impl<'a> View<'a> {
 
     pub fn issuer_data_counter(self) -> u32 {
         self.number(ISSUER_DATA_COUNTER)
+    }
+
+    /// Since a command last went on, 0 to 60: the next one has to wait so many seconds.
+    pub fn wrong_codes(self) -> u32 {
+        self.number(WRONG_CODES)
+    }
+
+    /// Of the held request, 1 to 120; 0 where none is held.
+    pub fn seconds_left(self) -> u32 {
+        self.number(SECONDS_LEFT)
+    }
+
+    /// The request that has to wait; no bytes where there is none.
+    pub fn held_request(self) -> &'a [u8] {
+        self.counted(HELD_REQUEST, 2, 1)
     }
 
     /// 64 bytes each; none without a wallet.

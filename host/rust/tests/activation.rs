@@ -42,7 +42,7 @@ fn a_confirmed_card_works_and_its_pin1_is_reset() {
     assert_eq!((done.word, done.field("Activation_Seed")), (0x9000, None));
     assert_eq!((card.view().activated(), hex(card.view().pin1()), card.view().activation_seed()), (true, DEFAULT.to_string(), &seed[..]));
     assert_eq!(card.tap(&activate_card(&codes, &signature, true)).unwrap().reason, 6);
-    assert_eq!(card.tap(&activate_card(&card.codes(), &signature, true)).unwrap().reason, 12);
+    assert_eq!(card.tap_waiting(&activate_card(&card.codes(), &signature, true)).unwrap().reason, 12);
     assert!(card.tap(&create_wallet(&card.codes())).unwrap().ok());
 }
 

@@ -24,19 +24,39 @@ fn a_bad_line_of_a_sheet_is_told_by_its_number() {
     assert_eq!(made_of("").unwrap(), Error::BadSheet(1));
     let from_before_activation = made_of(&lines[..13].concat()).unwrap().to_string();
     assert_eq!(from_before_activation, "line 14 is bad; it has to be seed, a tab and 32 hex digits in capitals, ended by a line feed");
-    assert_eq!(made_of(&format!("{SHEET}\n")).unwrap().to_string(), "line 15 is bad; it has to be nothing after line 14");
+    let after_seed = "nothing, or pause, a tab and a number from 0 to 60 without leading zeros, ended by a line feed";
+    for wrong in ["\n", "pause\t61\n", "pause\t05\n", "pause\t\n", "pause\t3", "uid\t00\n"] {
+        assert_eq!(made_of(&format!("{SHEET}{wrong}")).unwrap().to_string(), format!("line 15 is bad; it has to be {after_seed}"));
+    }
+    for wrong in ["\n", "pause\t3\n"] {
+        let after_pause = made_of(&format!("{SHEET}pause\t3\n{wrong}")).unwrap();
+        assert_eq!(after_pause.to_string(), "line 16 is bad; it has to be nothing after line 15");
+    }
 }
 
 #[test]
 fn what_is_no_card_is_none() {
     let image = Card::from_sheet(SHEET, MadeUp::default()).unwrap().image().to_vec();
     assert!(Card::from_image(&image, MadeUp::default()).is_ok());
-    let mut status = image.clone();
-    status[103] = 0;
-    let mut signatures_and_no_wallet = image.clone();
-    signatures_and_no_wallet[1804..1869].fill(1);
-    let without_seed = [&image[..80], &image[96..]].concat();
-    for wrong in [&[][..], &image[1..], &status, &signatures_and_no_wallet, &without_seed, &[0; 2445], &[0; 100_000]] {
+    for (offset, wrong) in [
+        (96, &[61][..]),      // the pause
+        (104, &[0]),          // Status
+        (1805, &[61]),        // codes counted
+        (1806, &[1]),         // seconds left, and no request
+        (1806, &[0, 0, 6]),   // a request, and no seconds left
+        (1806, &[121, 0, 6]), // more than any wait
+        (1806, &[1, 0, 5]),   // a request that is none
+        (1806, &[1, 4, 1]),   // and one of 1,025 bytes
+        (1810, &[1]),         // a byte where no request is held
+        (2833, &[1; 65]),     // signatures, and no wallet
+    ] {
+        let mut damaged = image.clone();
+        damaged[offset..offset + wrong.len()].copy_from_slice(wrong);
+        assert_eq!(Card::from_image(&damaged, MadeUp::default()).err(), Some(Error::NotACard), "{wrong:?} at {offset}");
+    }
+    let from_before_the_delay = [&image[..96], &image[97..1805], &image[2833..]].concat();
+    assert_eq!(from_before_the_delay.len(), 2445);
+    for wrong in [&[][..], &image[1..], &from_before_the_delay, &[0; 3474], &[0; 100_000]] {
         assert_eq!(Card::from_image(wrong, MadeUp::default()).err(), Some(Error::NotACard));
     }
 }

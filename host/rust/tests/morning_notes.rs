@@ -51,13 +51,16 @@ fn asking_for_the_last_signatures_again_costs_nothing() {
 }
 
 #[test]
-fn a_refusal_uses_nothing_up() {
+fn a_refusal_uses_nothing_up_but_a_wrong_code_costs_a_second() {
     let mut card = wallet();
     card.tap(&sign(&card.codes(), &CHECKS)).unwrap();
-    let before = card.image().to_vec();
     let wrong = Codes { pin2: Some(vec![0; 32]), ..card.codes() };
     let refused = card.tap(&sign(&wrong, &CHECKS)).unwrap();
     assert!(refused.refused() && refused.name == "SW_INVALID_PARAMS");
     assert_eq!((refused.reason, refused.why()), (10, Some("PIN2 or the CVC is absent or is not the card's")));
-    assert_eq!(card.image(), before);
+    assert_eq!((card.view().remaining(), card.view().signed_hashes(), card.view().wrong_codes()), (999, 5, 1));
+    let again = sign(&card.codes(), &CHECKS);
+    assert_eq!(card.tap(&again).unwrap().seconds_left(), Some(1));
+    assert!(card.tap(&again).unwrap().ok());
+    assert_eq!((card.view().remaining(), card.view().signed_hashes(), card.view().wrong_codes()), (998, 10, 0));
 }

@@ -26,7 +26,7 @@ impl Provider for Keeping {
 /// The card of a sheet whose last wallet was number 257.
 fn card(sheet: &str) -> Card<Keeping> {
     let mut image = Card::from_sheet(sheet, MadeUp::default()).unwrap().image().to_vec();
-    image[104..106].copy_from_slice(&[1, 1]);
+    image[105..107].copy_from_slice(&[1, 1]);
     Card::from_image(&image, Keeping::default()).unwrap()
 }
 

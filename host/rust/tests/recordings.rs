@@ -5,7 +5,7 @@ use merelstof::{Card, Error, Provider, Question};
 use std::path::Path;
 use std::{env, fs};
 
-const SHEET_LINES: usize = 14;
+const SHEET_LINES: usize = 14; // and one more where it has a pause
 
 /// Draw and answers of the tap under way, as the recording has them.
 #[derive(Default)]
@@ -38,14 +38,17 @@ fn play(path: &Path) -> (usize, usize) {
     let lines: Vec<&str> = recording.split_inclusive('\n').collect();
     let mut reasons = reasons.lines();
     let mut compared = 0;
-    let mut card = Card::from_sheet(&lines[..SHEET_LINES].concat(), Recorded::default()).unwrap();
-    for line in &lines[SHEET_LINES..] {
+    let taps = SHEET_LINES + usize::from(lines.get(SHEET_LINES).map_or(false, |line| line.starts_with("pause")));
+    let mut card = Card::from_sheet(&lines[..taps].concat(), Recorded::default()).unwrap();
+    for line in &lines[taps..] {
         let fields: Vec<&str> = line.trim_end_matches('\n').split('\t').collect();
         card.provider = Recorded { draw: bytes(fields[1]).try_into().unwrap(), answers: bytes(fields[2]) };
         let before = card.image().to_vec();
         let (got, reason) = match card.tap(&bytes(fields[0])) {
             Ok(response) => {
-                assert_eq!((response.ok(), response.why().is_none()), (response.reason == 0, response.reason == 0), "{line}");
+                let (refused, paused) = (response.reason != 0, response.bytes.ends_with(&[0x97, 0x89]));
+                assert_eq!((response.refused(), response.why().is_some(), response.paused()), (refused, refused, paused), "{line}");
+                assert_eq!((response.ok(), response.seconds_left().is_some()), (!refused && !paused, paused), "{line}");
                 (hex(&response.bytes), response.reason)
             }
             Err(why) => {
@@ -59,7 +62,7 @@ fn play(path: &Path) -> (usize, usize) {
             compared += 1;
         }
     }
-    (lines.len() - SHEET_LINES, compared)
+    (lines.len() - taps, compared)
 }
 
 #[test]
