@@ -20,10 +20,5 @@ pub mod Events
 pub mod Handover
 pub mod Waking
 pub mod Notes
-pub mod Story
-pub mod Rejected
-pub mod Hurried
 pub mod Entries
 pub mod Twice
-pub mod Proud
-pub mod Mute

@@ -1,4 +1,4 @@
--- WRONG CARDS, 01 "How much a promise has to say", and others that a tired or a clever engineer might write. proofs/Rejected.antt shows each rejected, by
+-- WRONG CARDS, 01 "How much a promise has to say", and others that a tired or a clever engineer might write. crates/rejected shows each rejected, by
 -- the demand named here alone. Assumes nothing.
 use Prim.Native.Nat.{ℕ, _+_, _-_}
 use mathlib.Core.List.{List, [], _∷_, _++_}

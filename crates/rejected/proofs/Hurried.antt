@@ -12,11 +12,11 @@ use Rattle.card.specs.Layout.{imageRoom, pendingAt}
 use Rattle.card.specs.Image.{encode, decode}
 use Rattle.manual.specs.declared.Command.the-variants.{ReadCard}
 use Rattle.manual.specs.Settle.{State, holding, Call, waiting, over}
 use Rattle.history.specs.Demands.{Demand1, Demand2, TurnedOff, off, onlyCounted, tapsOf, left}
 use Rattle.history.specs.Wrong.{hurried, impatient, trusting, forgiving}
 use Rattle.history.proofs.Choice.{both-true}
 use Rattle.history.proofs.Images.{model}
-use Rattle.history.proofs.Story.{run, image0, codes1, request, call, reads}
+use Rattle.rejected.proofs.Story.{run, image0, codes1, request, call, reads}
 
 -- READ_CARD with another PIN1, and the card after it: one wrong code is counted
 abbrev guess : Call

@@ -17,9 +17,9 @@ use Rattle.manual.specs.declared.Pace.{Pace}
 use Rattle.manual.specs.declared.Pace.the-variants.{Refused, Waits, Goes}
 use Rattle.manual.specs.Row.{asked}
 use Rattle.manual.specs.Settle.{State, Call, pacedReason, pacedWord, Said, posed, posedBy, outcome, untouched, lent, roomy, askedFor, settled}
 use Rattle.history.specs.Wrong.{asksAt, saysAt, honest, hushed, quietly, unreasonedAsk, unreasonedSettle, mute}
 use Rattle.history.proofs.Images.{stages}
-use Rattle.history.proofs.Rejected.{honest-accepted}
+use Rattle.rejected.proofs.Rejected.{honest-accepted}
 
 hush-verdict :
     (p : Pace) (z : Verdict) (v page : List ℕ)

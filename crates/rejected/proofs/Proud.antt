@@ -29,11 +29,11 @@ use Rattle.manual.specs.Delay.{paceBy, pendingAfter}
 use Rattle.manual.specs.Settle.{State, Call, sentIn, matched, pacedReason, pacedWord, Said, silent, refused, done, answered, lent, roomy, untouched, outcome}
 use Rattle.manual.specs.Settle.{posed, posedBy, askedFor, settled}
 use Rattle.story.specs.Buffers.{image}
 use Rattle.history.specs.Demands.{imageBy}
 use Rattle.history.specs.Wrong.{asksAt, saysAt, judgedBy, pacedBy, asksBy, saysBy, leavesBy, but, withFieldsOut, boasting, proud}
 use Rattle.history.proofs.Taps.{by-checks}
 use Rattle.history.proofs.Images.{model, stages, image-lent}
-use Rattle.history.proofs.Rejected.{honest-accepted}
+use Rattle.rejected.proofs.Rejected.{honest-accepted}
 
 -- its rows, and a row without what it tells
 abbrev rows : Command → Row

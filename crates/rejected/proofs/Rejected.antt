@@ -25,16 +25,16 @@ use Rattle.manual.specs.Commands.{row}
 use Rattle.manual.specs.Settle.{State, holding, Call, Posed, sentIn, matched, said, saidBy, questionsOf, paceOf, paced, pacedQuestions}
 use Rattle.manual.specs.Settle.{settled, settledOf, askedFor, askedOf}
 use Rattle.manual.specs.Settle.{judgedBy as judgement}
 use Rattle.history.specs.Demands.{AnyCard, isRefusal, Asked, noneAsked, allAsked, mustWait, Demand1, Demand2}
 use Rattle.history.specs.Demands.{tapsOf, left, Asks, nothing, due, allKinds, Poses, Demand3}
 use Rattle.history.specs.Wrong.{asksAt, outside, judgedBy, pacedBy, asksBy, saysBy, honest}
 use Rattle.history.specs.Wrong.{refuser, yesSayer, forgetter, repeater, proud, oldCard, greedy, hasty, hoarder}
 use Rattle.history.specs.Wrong.{eager, riser, teller, forger, notary, babbler, stubborn, inventor, mute, firstTaker, heir, credulous, resetter}
 use Rattle.history.proofs.Choice.{both-true, clash}
 use Rattle.history.proofs.Taps.{paced-as}
 use Rattle.history.proofs.Images.{model}
-use Rattle.history.proofs.Story.{run, sheet0, image0, fresh0, sheet1, image1, fresh1, sheet2, image2, fresh2, codes1, request, call}
-use Rattle.history.proofs.Story.{ask0, reads, creates, hashes, signs, repeats, purges, verifies, notes, wakes}
+use Rattle.rejected.proofs.Story.{run, sheet0, image0, fresh0, sheet1, image1, fresh1, sheet2, image2, fresh2, codes1, request, call}
+use Rattle.rejected.proofs.Story.{ask0, reads, creates, hashes, signs, repeats, purges, verifies, notes, wakes}
 
 -- THE FRAME of the wrong cards is right: with the manual's rows it meets demand 2
 same-asks : (z : Verdict) (c : Card) (q d : List ℕ) → asksBy row z c q d ≡ questionsOf z (c .face) q d
