@@ -41,11 +41,11 @@ unfolding run
 trusting-rejected h = let e : _≡_ {A = ℕ} 0 1 = ap (λ z. getD (z .next) pendingAt 0) (h .settles (holding image0) guess) in absurd (omega arith)
 
 -- 26. forgets the wrong codes at a power-off. The image is one of bytes: each was looked at
-abbrev below : List ℕ → Bool
+abbrev pub below : List ℕ → Bool
 below [] = true
 below (x ∷ xs) = ltb x 256 && below xs
 
-all-bytes : (l : List ℕ) → below l ≡ true → Bytes l
+pub all-bytes : (l : List ℕ) → below l ≡ true → Bytes l
 all-bytes [] e i = omega arith
 all-bytes (x ∷ xs) e zero = ltb-true x 256 (both-true (ltb x 256) (below xs) e .0)
 all-bytes (x ∷ xs) e (suc i) = all-bytes xs (both-true (ltb x 256) (below xs) e .1) i

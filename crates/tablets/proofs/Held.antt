@@ -1,0 +1,148 @@
+-- WHAT THE CARD HOLDS after any number of E0 that are apart two by two, and that READ_USER_DATA tells it. Assumes nothing.
+use Prim.Native.Nat.{ℕ}
+use native.Mathlib.Omega.{arith}
+use mathlib.Core.Path.{_≡_, refl, sym, ap, _∙_, subst}
+use mathlib.Core.List.{List, [], _∷_}
+use mathlib.Core.Bool.{Bool, true, false, not, _&&_, _||_}
+use lib.ListN.{length}
+use lib.Seq.{take-all}
+use lib.Dec.{eqb}
+use borrow.Author.Tests.{eqb-true}
+use Rattle.wire.specs.Wire.{be4, Bytes}
+use Rattle.wire.proofs.Laws.{by-cases, both-true}
+use Rattle.wire.proofs.Parts.{part-pad, part32}
+use Rattle.fields.specs.Fields.{View, has, val}
+use Rattle.card.specs.declared.Card.{Card}
+use Rattle.card.specs.Layout.{dataRoom}
+use Rattle.card.specs.Values.{u16, blockOf}
+use Rattle.card.specs.Image.{decode}
+use Rattle.manual.specs.Tags.{UserData, UserProtectedData, UserCounter, UserProtectedCounter}
+use Rattle.manual.specs.declared.Verdict.{Verdict}
+use Rattle.manual.specs.declared.Verdict.the-variants.{Pass, Stop}
+use Rattle.manual.specs.Request.{command}
+use Rattle.manual.specs.Row.{Rule, gateOf, passed}
+use Rattle.manual.specs.Storage.{isData, isNumber, blockSent, numberSent, anySent, userFields}
+use Rattle.manual.specs.Commands.{row}
+use Rattle.manual.specs.Settle.{Call, sentIn, matched, judgedBy}
+use Rattle.facts.proofs.Storage.{data-long}
+use Rattle.history.specs.Demands.{AnyCard, Demand2}
+use Rattle.history.specs.Facts.{checksOf, isOf}
+use Rattle.history.proofs.Choice.{clash, or-false}
+use Rattle.history.proofs.Taps.{Every, named}
+use Rattle.tablets.specs.Tablets.{Ready, Stores, userTags, AllStore, storedAll, Sent, now, later, TwoByTwo, userValue, WrittenBy}
+use Rattle.tablets.proofs.Accepted.{went}
+use Rattle.tablets.proofs.Written.{blockIn, numberIn}
+use Rattle.tablets.proofs.Bytes.{bytes-sent}
+use Rattle.tablets.proofs.Storing.{is-write}
+use Rattle.tablets.proofs.Values.{Nowhere, none-sent, stays-old, comes-from}
+use Rattle.tablets.proofs.Many.{wroteAll, withAll, by-values, all-spelled}
+
+-- a tag of the four
+pub by-tag :
+    (P : ℕ → Type 0) → P UserData → P UserProtectedData → P UserCounter → P UserProtectedCounter → (t : ℕ) → isOf t userTags ≡ true → P t
+by-tag P a b c d t e = go (eqb UserData t) (eqb UserProtectedData t) (eqb UserCounter t) (eqb UserProtectedCounter t) refl refl refl refl e
+  where
+    go : (p q r s : Bool) → eqb UserData t ≡ p → eqb UserProtectedData t ≡ q → eqb UserCounter t ≡ r → eqb UserProtectedCounter t ≡ s
+        → (p || (q || (r || (s || false)))) ≡ true → P t
+    go true q r s i j k l e = subst P (eqb-true UserData t i) a
+    go false true r s i j k l e = subst P (eqb-true UserProtectedData t j) b
+    go false false true s i j k l e = subst P (eqb-true UserCounter t k) c
+    go false false false true i j k l e = subst P (eqb-true UserProtectedCounter t l) d
+    go false false false false i j k l e = clash e refl
+
+-- WHAT CHECK 11 ASKS of the fields that are there
+abbrev isPass : Verdict → Bool
+isPass (Pass k) = true
+isPass (Stop n w) = false
+
+every-holds : (rs : List Rule) (q : List ℕ) → isPass (gateOf rs (passed q)) ≡ true → Every rs
+every-holds [] q = λ e. tt
+every-holds (r ∷ rs) q =
+    by-cases (λ g. isPass g ≡ true → Every (r ∷ rs)) (r .ok) (λ o e. (o, every-holds rs q e)) (λ _ e. clash e refl)
+
+-- a view whose fields are in their form
+record Formed (v : View) : Type 0 where
+  pub block : blockSent UserData v ≡ true
+  pub hidden : blockSent UserProtectedData v ≡ true
+  pub number : numberSent UserCounter v ≡ true
+  pub guarded : numberSent UserProtectedCounter v ≡ true
+
+formed : (v : View) → userFields v ≡ true → Formed v
+formed v e =
+    let x = both-true (anySent v) _ e .1 in
+    let y = both-true (blockSent UserData v && blockSent UserProtectedData v) (numberSent UserCounter v && numberSent UserProtectedCounter v) x in
+    let b = both-true (blockSent UserData v) (blockSent UserProtectedData v) (y .0) in
+    let n = both-true (numberSent UserCounter v) (numberSent UserProtectedCounter v) (y .1) in
+    record { block = b .0; hidden = b .1; number = n .0; guarded = n .1 }
+
+module _ {f : AnyCard} (h : Demand2 f) {m : List ℕ} {i : Call} (y : Stores f m i) where
+  right-fields : userFields (sentIn (i .request)) ≡ true
+  unfolding judgedBy
+  right-fields =
+      let c = decode m in
+      let q = i .request in
+      let x = matched (c .codes) (sentIn q) in
+      let p = named (row (command q)) x (c .face) q (every-holds (checksOf (row (command q)) x (c .face) q) q (ap isPass (went h y .verdict))) in
+      sym (ap (λ k. row k .fields (c .face) (sentIn q)) (is-write h y)) ∙ p .fields
+
+-- of each request that was sent
+module _ {f : AnyCard} (h : Demand2 f) (m : List ℕ) where
+  sent-formed : (is : List Call) → AllStore f m is → (q : List ℕ) → Sent q is → Formed (sentIn q) × Bytes q
+  sent-formed (i ∷ is) y q (now p) = subst (λ q. Formed (sentIn q) × Bytes q) p (formed (sentIn (i .request)) (right-fields h (y .0)), y .0 .bytes)
+  sent-formed (i ∷ is) y q (later s) = sent-formed is (y .1) q s
+
+-- A VALUE IS FOUND AGAIN: a block as it was sent, and a number in its four bytes
+block-back : (t : ℕ) (v : View) → blockSent t v ≡ true → has t v ≡ true → blockOf (blockIn t v) ≡ val t v
+unfolding blockOf
+block-back t v e k =
+    let l = data-long (val t v) (or-false (not (has t v)) (isData (val t v)) e (ap not k)) .1 in
+    let n : u16 (length (val t v)) ≡ length (val t v) = omega arith in
+    rw n (part-pad dataRoom (val t v) l)
+
+number-back : (t : ℕ) (v : View) → Bytes (val t v) → numberSent t v ≡ true → has t v ≡ true → be4 (numberIn t v) ≡ val t v
+number-back t v b e k =
+    let l : length (val t v) ≡ 4 = eqb-true (length (val t v)) 4 (or-false (not (has t v)) (isNumber (val t v)) e (ap not k)) in
+    part32 (val t v) 0 b (omega arith) ∙ take-all 4 (val t v) (omega arith)
+
+-- WHAT THE CARD HOLDS
+module _ (f : AnyCard) (h : Demand2 f) (m : List ℕ) (u : Ready m) where
+  abbrev c : Card
+  c = decode m
+
+  module _ (is : List Call) (y : AllStore f m is) (two : TwoByTwo is) where
+    value-sent :
+        (t : ℕ) → isOf t userTags ≡ true → (q : List ℕ) → Sent q is → has t (sentIn q) ≡ true → userValue t (withAll is c) ≡ val t (sentIn q)
+    value-sent =
+        by-tag (λ t. (q : List ℕ) → Sent q is → has t (sentIn q) ≡ true → userValue t (withAll is c) ≡ val t (sentIn q))
+        (λ q s e.
+        ap blockOf (comes-from UserData (blockIn UserData) refl two (c .face .held .user) q s e)
+        ∙ block-back UserData (sentIn q) (sent-formed h m is y q s .0 .block) e)
+        (λ q s e.
+        ap blockOf (comes-from UserProtectedData (blockIn UserProtectedData) refl two (c .face .held .protected) q s e)
+        ∙ block-back UserProtectedData (sentIn q) (sent-formed h m is y q s .0 .hidden) e)
+        (λ q s e.
+        let z = sent-formed h m is y q s in
+        ap be4 (comes-from UserCounter (numberIn UserCounter) refl two (c .face .front .counters .user) q s e)
+        ∙ number-back UserCounter (sentIn q) (bytes-sent UserCounter q (z .1)) (z .0 .number) e)
+        (λ q s e.
+        let z = sent-formed h m is y q s in
+        ap be4 (comes-from UserProtectedCounter (numberIn UserProtectedCounter) refl two (c .face .front .counters .protected) q s e)
+        ∙ number-back UserProtectedCounter (sentIn q) (bytes-sent UserProtectedCounter q (z .1)) (z .0 .guarded) e)
+
+    value-old : (t : ℕ) → isOf t userTags ≡ true → Nowhere t is → userValue t (withAll is c) ≡ userValue t c
+    value-old =
+        by-tag (λ t. Nowhere t is → userValue t (withAll is c) ≡ userValue t c)
+        (λ n. ap blockOf (stays-old UserData (blockIn UserData) is (c .face .held .user) n))
+        (λ n. ap blockOf (stays-old UserProtectedData (blockIn UserProtectedData) is (c .face .held .protected) n))
+        (λ n. ap be4 (stays-old UserCounter (numberIn UserCounter) is (c .face .front .counters .user) n))
+        (λ n. ap be4 (stays-old UserProtectedCounter (numberIn UserProtectedCounter) is (c .face .front .counters .protected) n))
+
+  written : (is : List Call) → AllStore f m is → TwoByTwo is → WrittenBy is c (wroteAll is c)
+  unfolding sentIn
+  written [] y two = record { sent = λ t l q s e. absurd (none-sent s); old = λ t l n. refl; rest = refl }
+  written (i ∷ is) y two =
+      subst (WrittenBy (i ∷ is) c) (sym (by-values i is c))
+      (record { sent = value-sent (i ∷ is) y two; old = value-old (i ∷ is) y two; rest = refl })
+
+  pub holds-written : (is : List Call) → AllStore f m is → TwoByTwo is → WrittenBy is c (decode (storedAll f m is))
+  holds-written is y two = subst (WrittenBy is c) (sym (all-spelled f h m u is y)) (written is y two)

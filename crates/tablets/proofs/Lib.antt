@@ -1,0 +1,10 @@
+pub mod Accepted
+pub mod Written
+pub mod Bytes
+pub mod Storing
+pub mod Theorems
+pub mod Values
+pub mod Many
+pub mod Held
+pub mod Told
+pub mod Needed

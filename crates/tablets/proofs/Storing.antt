@@ -1,0 +1,146 @@
+-- AN E0 where no request is held or there is no pause, by any card that meets demand 2: what it leaves, that nothing is held or counted then, and that an E0
+-- which was accepted before is accepted after it, whatever both have in them: its checks see codes, CID, the activated flag and Status, which no E0 changes.
+-- Assumes nothing.
+use Prim.Native.Nat.{ℕ, _+_, _≤_}
+use native.Mathlib.Omega.{arith}
+use mathlib.Core.Path.{_≡_, refl, sym, ap, _∙_, subst}
+use mathlib.Core.List.{List, []}
+use mathlib.Core.Bool.{true, false, cond}
+use mathlib.Core.Logic.{_⊎_, inl, inr}
+use lib.ListN.{length}
+use Rattle.wire.specs.Wire.{Bytes}
+use Rattle.wire.proofs.Laws.{by-cases, part-none, other-length}
+use Rattle.fields.specs.Fields.{View}
+use Rattle.card.specs.declared.Face.{Face}
+use Rattle.card.specs.declared.Card.{Card}
+use Rattle.card.specs.Values.{u8, requestOf, noPending}
+use Rattle.card.specs.Image.{encode, decode}
+use Rattle.card.specs.Valid.{isCard}
+use Rattle.cards.proofs.Round.{card-image}
+use Rattle.manual.specs.declared.Command.{Command}
+use Rattle.manual.specs.declared.Command.the-variants.{WriteUserData}
+use Rattle.manual.specs.declared.Verdict.{Verdict}
+use Rattle.manual.specs.Request.{command, payload}
+use Rattle.manual.specs.Row.{Matched, gateOf, rules, passed, shaped}
+use Rattle.manual.specs.Commands.{row}
+use Rattle.manual.specs.Delay.{entered, isHeld}
+use Rattle.manual.specs.Settle.{holding, Call, sentIn, matched, judgedBy, judged, done, waiting, cardAfter}
+use Rattle.fields.specs.Fields.{wellFormed}
+use Rattle.history.specs.Demands.{AnyCard, Demand2, waitIn}
+use Rattle.history.proofs.Choice.{by-ins}
+use Rattle.history.proofs.Theorems.{card-stays}
+use Rattle.waits.proofs.Pace.{enters-sized, wait-whole}
+use Rattle.waits.proofs.Sending.{leaves-as, spells}
+use Rattle.tablets.specs.Tablets.{Ready, Calm, Stores, stored}
+use Rattle.tablets.proofs.Accepted.{Goes, goes-on, looks, went, accepts}
+use Rattle.tablets.proofs.Written.{wrote}
+use Rattle.tablets.proofs.Bytes.{bytes-sent, bytes-wrote}
+
+-- what the paper asks for is enough
+pub calm-ready : {m : List ℕ} → Calm m → Ready m
+calm-ready u = record { card = u .card; bytes = u .bytes; ready = inl (u .held) }
+
+-- nothing held, so no request is the held one
+not-held : (f : Face) (q : List ℕ) → f .pending .wait .size ≡ 0 → 1 ≤ length q → isHeld f q ≡ false
+unfolding isHeld requestOf
+not-held f q e l = rw (e, part-none (f .pending .request) 0) (other-length [] q (λ z. omega arith))
+
+-- THE COLUMNS OF E0 do not look at what an E0 changes
+module _ (v : View) (c : Card) (q d a : List ℕ) (e : command q ≡ WriteUserData) where
+  abbrev x : Matched
+  x = matched (c .codes) (sentIn q)
+
+  abbrev gate : Command → Face → Verdict
+  gate k f = gateOf (rules (row k) x f (wellFormed (payload q)) (sentIn q) q) (passed q)
+
+  same-verdict : judged x (wrote v c .face) q ≡ judged x (c .face) q
+  unfolding judgedBy
+  same-verdict = subst (λ k. gate k (wrote v c .face) ≡ gate k (c .face)) (sym e) refl
+
+  same-shape : shaped (row (command q) .questions (wrote v c .face) (sentIn q) d) a ≡ shaped (row (command q) .questions (c .face) (sentIn q) d) a
+  same-shape =
+      subst (λ k. shaped (row k .questions (wrote v c .face) (sentIn q) d) a ≡ shaped (row k .questions (c .face) (sentIn q) d) a) (sym e) refl
+
+-- WHAT WENT ON GOES ON after another E0
+module _ (m : List ℕ) (o : isCard m ≡ true) (q d a : List ℕ) (g : Goes (decode m) q d a) where
+  abbrev c : Card
+  c = decode m
+
+  some : 1 ≤ length q
+  some = omega (arith, enters-sized c q (ap entered (g .verdict)) .least)
+
+  -- the pause, where PIN2 is needed
+  abbrev pausing : ℕ
+  pausing = cond (row (command q) .pin2 (sentIn q)) (c .face .front .fixed .pause) 0
+
+  -- where no request is held, nobody waited: nothing was counted, and there is no such pause
+  pub none-waited : waitIn m .size ≡ 0 → waitIn m .wrong + pausing ≡ 0
+  none-waited e = sym (wait-whole m q o (not-held (c .face) q e some)) ∙ g .prompt
+
+  no-pause : (waitIn m .size ≡ 0) ⊎ (c .face .front .fixed .pause ≡ 0) → pausing ≡ 0
+  no-pause (inl e) = omega (arith, none-waited e)
+  no-pause (inr e) = by-cases (λ (n : ℕ). n ≡ 0) (row (command q) .pin2 (sentIn q)) (λ _. e) (λ _. refl)
+
+  still-goes :
+      (waitIn m .size ≡ 0) ⊎ (c .face .front .fixed .pause ≡ 0) → command q ≡ WriteUserData → (v : View) → Goes (wrote v c) q d a
+  still-goes r e v =
+      record {
+        verdict = same-verdict v c q d a e ∙ g .verdict;
+        prompt = rw (not-held (wrote v c .face) q refl some) (ap (λ n. u8 (0 + n)) (no-pause r));
+        shape = same-shape v c q d a e ∙ g .shape;
+        yes = g .yes;
+      }
+
+-- WHAT AN ACCEPTED E0 LEAVES, of any card that meets demand 2
+module _ {f : AnyCard} (h : Demand2 f) {m : List ℕ} {i : Call} (y : Stores f m i) where
+  pub is-write : command (i .request) ≡ WriteUserData
+  is-write = by-ins WriteUserData refl (i .request) (y .ins)
+
+  abbrev v : View
+  v = sentIn (i .request)
+
+  pub leaves : stored f m i ≡ encode (wrote v (decode m))
+  unfolding done
+  leaves =
+      let c = decode m in
+      leaves-as h (holding m) i (looks h y) (goes-on c (i .request) (i .draw) (i .answers) (went h y)) refl
+      ∙ ap (λ k. encode (waiting noPending (record { face = row k .next (c .face) v (i .answers); codes = row k .recode v (c .codes) }))) is-write
+
+  pub spelled : decode (stored f m i) ≡ wrote v (decode m)
+  unfolding done
+  spelled =
+      let c = decode m in
+      spells h (holding m) i (looks h y)
+      ∙ ap (λ s. cardAfter s (c .codes) (i .request)) (goes-on c (i .request) (i .draw) (i .answers) (went h y))
+      ∙ ap (λ k. waiting noPending (record { face = row k .next (c .face) v (i .answers); codes = row k .recode v (c .codes) })) is-write
+
+  -- nothing is held or counted afterwards
+  pub leaves-ready : Ready m → Ready (stored f m i)
+  leaves-ready u =
+      record {
+        card = card-stays f h (holding m) i (u .card);
+        bytes =
+            subst Bytes (sym leaves)
+            (bytes-wrote v (decode m) (λ t. bytes-sent t (i .request) (y .bytes)) (subst Bytes (sym (card-image m (u .card) (u .bytes))) (u .bytes)));
+        ready = inl (ap (λ (c : Card). c .face .pending .wait .size) spelled);
+      }
+
+  pub leaves-calm : Calm m → Calm (stored f m i)
+  leaves-calm u =
+      let r = leaves-ready (calm-ready u) in
+      record {
+        card = r .card;
+        bytes = r .bytes;
+        pause = ap (λ (c : Card). c .face .front .fixed .pause) spelled ∙ u .pause;
+        wrong = ap (λ (c : Card). c .face .pending .wait .wrong) spelled;
+        held = ap (λ (c : Card). c .face .pending .wait .size) spelled;
+      }
+
+-- THE OTHER IS STILL ACCEPTED, whatever both have in them
+pub still-stores : {f : AnyCard} → Demand2 f → (m : List ℕ) → Ready m → (i j : Call) → Stores f m i → Stores f m j → Stores f (stored f m i) j
+still-stores {f} h m u i j x y =
+    let e = is-write h y in
+    let q = j .request in
+    accepts h m (stored f m i) j (looks h y) (leaves-ready h x u .card) WriteUserData (y .ins) (y .bytes)
+    (ap (λ k. row k .more (matched (decode (stored f m i) .codes) (sentIn q))) e)
+    (subst (λ c. Goes c q (j .draw) (j .answers)) (sym (spelled h x)) (still-goes m (u .card) q (j .draw) (j .answers) (went h y) (u .ready) e (sentIn (i .request))))
