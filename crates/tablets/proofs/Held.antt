@@ -19,7 +19,7 @@ use Rattle.card.specs.Image.{decode}
 use Rattle.manual.specs.Tags.{UserData, UserProtectedData, UserCounter, UserProtectedCounter}
 use Rattle.manual.specs.declared.Verdict.{Verdict}
 use Rattle.manual.specs.declared.Verdict.the-variants.{Pass, Stop}
-use Rattle.manual.specs.Request.{command}
+use Rattle.manual.specs.Request.{command, payload}
 use Rattle.manual.specs.Row.{Rule, gateOf, passed}
 use Rattle.manual.specs.Storage.{isData, isNumber, blockSent, numberSent, anySent, userFields}
 use Rattle.manual.specs.Commands.{row}
@@ -29,11 +29,11 @@ use Rattle.history.specs.Demands.{AnyCard, Demand2}
 use Rattle.history.specs.Facts.{checksOf, isOf}
 use Rattle.history.proofs.Choice.{clash, or-false}
 use Rattle.history.proofs.Taps.{Every, named}
-use Rattle.tablets.specs.Tablets.{Ready, Stores, userTags, AllStore, storedAll, Sent, now, later, TwoByTwo, userValue, WrittenBy}
+use Rattle.tablets.specs.Tablets.{Ready, Stores, stored, userTags, isIn, AllStore, storedAll, Sent, now, later, again, TwoByTwo, userValue, WrittenBy}
 use Rattle.tablets.proofs.Accepted.{went}
 use Rattle.tablets.proofs.Written.{blockIn, numberIn}
 use Rattle.tablets.proofs.Bytes.{bytes-sent}
-use Rattle.tablets.proofs.Storing.{is-write}
+use Rattle.tablets.proofs.Storing.{is-write, leaves-ready, still-stores}
 use Rattle.tablets.proofs.Values.{Nowhere, none-sent, stays-old, comes-from}
 use Rattle.tablets.proofs.Many.{wroteAll, withAll, by-values, all-spelled}
 
@@ -146,3 +146,18 @@ module _ (f : AnyCard) (h : Demand2 f) (m : List ℕ) (u : Ready m) where
 
   pub holds-written : (is : List Call) → AllStore f m is → TwoByTwo is → WrittenBy is c (decode (storedAll f m is))
   holds-written is y two = subst (WrittenBy is c) (sym (all-spelled f h m u is y)) (written is y two)
+
+-- THE LATER ONE STANDS: what an accepted E0 sends is what the card then holds, whatever was there before; so too where another has sent the same tag
+module _ (f : AnyCard) (h : Demand2 f) (m : List ℕ) (u : Ready m) where
+  alone : (i : Call) → TwoByTwo (i ∷ [])
+  alone i q r (now p) (now k) = again (sym p ∙ k)
+
+  pub sent-stands :
+      (i : Call) → Stores f m i → (t : ℕ) → isOf t userTags ≡ true → isIn t (payload (i .request)) ≡ true
+      → userValue t (decode (stored f m i)) ≡ val t (sentIn (i .request))
+  sent-stands i y t l e = holds-written f h m u (i ∷ []) (y, tt) (alone i) .sent t l (i .request) (now refl) e
+
+pub later-stands :
+    (f : AnyCard) → Demand2 f → (m : List ℕ) → Ready m → (i j : Call) → Stores f m i → Stores f m j → (t : ℕ) → isOf t userTags ≡ true
+    → isIn t (payload (j .request)) ≡ true → userValue t (decode (stored f (stored f m i) j)) ≡ val t (sentIn (j .request))
+later-stands f h m u i j x y = sent-stands f h (stored f m i) (leaves-ready h x u) j (still-stores h m u i j x y)
