@@ -6,7 +6,7 @@ use native.Mathlib.Omega.{arith}
 use mathlib.Core.Path.{_≡_, refl, sym, ap, _∙_, subst}
 use mathlib.Core.List.{List, []}
 use mathlib.Core.Bool.{true, false, cond}
-use mathlib.Core.Logic.{_⊎_, inl, inr}
+use mathlib.Core.Logic.{inl, inr}
 use lib.ListN.{length}
 use Rattle.wire.specs.Wire.{Bytes}
 use Rattle.wire.proofs.Laws.{by-cases, part-none, other-length}
@@ -31,14 +31,14 @@ use Rattle.history.proofs.Choice.{by-ins}
 use Rattle.history.proofs.Theorems.{card-stays}
 use Rattle.waits.proofs.Pace.{enters-sized, wait-whole}
 use Rattle.waits.proofs.Sending.{leaves-as, spells}
-use Rattle.tablets.specs.Tablets.{Ready, Calm, Stores, stored}
+use Rattle.tablets.specs.Tablets.{Calm, Free, Ready, Stores, stored}
 use Rattle.tablets.proofs.Accepted.{Goes, goes-on, looks, went, accepts}
 use Rattle.tablets.proofs.Written.{wrote}
 use Rattle.tablets.proofs.Bytes.{bytes-sent, bytes-wrote}
 
 -- what the paper asks for is enough
 pub calm-ready : {m : List ℕ} → Calm m → Ready m
-calm-ready u = record { card = u .card; bytes = u .bytes; ready = inl (u .held) }
+calm-ready u = record { card = u .card; bytes = u .bytes; free = inr (u .pause) }
 
 -- nothing held, so no request is the held one
 not-held : (f : Face) (q : List ℕ) → f .pending .wait .size ≡ 0 → 1 ≤ length q → isHeld f q ≡ false
@@ -77,12 +77,11 @@ module _ (m : List ℕ) (o : isCard m ≡ true) (q d a : List ℕ) (g : Goes (de
   pub none-waited : waitIn m .size ≡ 0 → waitIn m .wrong + pausing ≡ 0
   none-waited e = sym (wait-whole m q o (not-held (c .face) q e some)) ∙ g .prompt
 
-  no-pause : (waitIn m .size ≡ 0) ⊎ (c .face .front .fixed .pause ≡ 0) → pausing ≡ 0
+  no-pause : Free m → pausing ≡ 0
   no-pause (inl e) = omega (arith, none-waited e)
   no-pause (inr e) = by-cases (λ (n : ℕ). n ≡ 0) (row (command q) .pin2 (sentIn q)) (λ _. e) (λ _. refl)
 
-  still-goes :
-      (waitIn m .size ≡ 0) ⊎ (c .face .front .fixed .pause ≡ 0) → command q ≡ WriteUserData → (v : View) → Goes (wrote v c) q d a
+  still-goes : Free m → command q ≡ WriteUserData → (v : View) → Goes (wrote v c) q d a
   still-goes r e v =
       record {
         verdict = same-verdict v c q d a e ∙ g .verdict;
@@ -122,7 +121,7 @@ module _ {f : AnyCard} (h : Demand2 f) {m : List ℕ} {i : Call} (y : Stores f m
         bytes =
             subst Bytes (sym leaves)
             (bytes-wrote v (decode m) (λ t. bytes-sent t (i .request) (y .bytes)) (subst Bytes (sym (card-image m (u .card) (u .bytes))) (u .bytes)));
-        ready = inl (ap (λ (c : Card). c .face .pending .wait .size) spelled);
+        free = inl (ap (λ (c : Card). c .face .pending .wait .size) spelled);
       }
 
   pub leaves-calm : Calm m → Calm (stored f m i)
@@ -143,4 +142,4 @@ still-stores {f} h m u i j x y =
     let q = j .request in
     accepts h m (stored f m i) j (looks h y) (leaves-ready h x u .card) WriteUserData (y .ins) (y .bytes)
     (ap (λ k. row k .more (matched (decode (stored f m i) .codes) (sentIn q))) e)
-    (subst (λ c. Goes c q (j .draw) (j .answers)) (sym (spelled h x)) (still-goes m (u .card) q (j .draw) (j .answers) (went h y) (u .ready) e (sentIn (i .request))))
+    (subst (λ c. Goes c q (j .draw) (j .answers)) (sym (spelled h x)) (still-goes m (u .card) q (j .draw) (j .answers) (went h y) (u .free) e (sentIn (i .request))))

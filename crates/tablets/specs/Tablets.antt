@@ -32,10 +32,13 @@ pub record Calm (m : List ℕ) : Type 0 where
   pub held : waitIn m .size ≡ 0
 
 -- less is enough: no request is held, or there is no pause
+abbrev pub Free : List ℕ → Type 0
+Free m = (waitIn m .size ≡ 0) ⊎ (decode m .face .front .fixed .pause ≡ 0)
+
 pub record Ready (m : List ℕ) : Type 0 where
   pub card : isCard m ≡ true
   pub bytes : Bytes m
-  pub ready : (waitIn m .size ≡ 0) ⊎ (decode m .face .front .fixed .pause ≡ 0)
+  pub free : Free m
 
 -- "accepted when sent alone": a request for this command, in bytes, to which settle, given m, says number 0 and 9000. Draw and buffers are
 -- whatever they are, and may differ from call to call
