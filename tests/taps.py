@@ -7,7 +7,7 @@ import pathlib
 
 from twin import (
     cases_activation, cases_checks, cases_codes, cases_count, cases_data, cases_delay, cases_drops, cases_handover, cases_numbers,
-    cases_requests, cases_status, cases_twice, cases_wallet,
+    cases_requests, cases_status, cases_tablets, cases_twice, cases_wallet,
 )
 from twin.bench import NAMES
 from twin.replay import Replay
@@ -15,7 +15,7 @@ from twin.script import Script
 
 PLACE = pathlib.Path(__file__).resolve().parent.parent / "crates" / "taps"
 CASES = (cases_requests, cases_checks, cases_status, cases_wallet, cases_data, cases_numbers, cases_codes, cases_twice, cases_handover,
-         cases_activation, cases_delay, cases_drops, cases_count)
+         cases_activation, cases_delay, cases_drops, cases_count, cases_tablets)
 
 
 def written() -> Script:
