@@ -22,8 +22,7 @@ use Rattle.manual.specs.Request.{code, command}
 use Rattle.manual.specs.Row.{Matched, Rule, gateOf, passed, shaped}
 use Rattle.manual.specs.Commands.{row}
 use Rattle.manual.specs.Delay.{entered}
-use Rattle.manual.specs.Settle.{holding, Call, sentIn, matched, judgedBy, judged, done, answered, saidBy, said, leaving, pacedTo}
-use Rattle.manual.specs.Settle.{lent, roomy}
+use Rattle.manual.specs.Settle.{holding, Call, sentIn, matched, judgedBy, judged, done, answered, saidBy, said, leaving, pacedTo, lent, roomy}
 use Rattle.story.specs.Sums.{isDone, ins}
 use Rattle.history.specs.Demands.{AnyCard, Demand2, settleStop}
 use Rattle.history.specs.Facts.{checksOf, checkHolds, AllHold}

@@ -1,5 +1,5 @@
--- ANY NUMBER OF E0, each accepted when sent alone, on a card that holds no request: each is accepted in its turn; and where they are apart two by two, every order
--- leaves the same card, some of them sent again. Assumes nothing.
+-- ANY NUMBER OF E0, each accepted when sent alone, where no request is held or there is no pause: each is accepted in its turn; and where they are apart two by
+-- two, every order leaves the same card, some of them sent again. Assumes nothing.
 use Prim.Native.Nat.{ℕ}
 use mathlib.Core.Path.{_≡_, refl, sym, ap, _∙_}
 use mathlib.Core.List.{List, [], _∷_}
@@ -9,9 +9,9 @@ use Rattle.cards.proofs.Round.{card-image}
 use Rattle.manual.specs.Tags.{UserData, UserProtectedData, UserCounter, UserProtectedCounter}
 use Rattle.manual.specs.Settle.{Call, sentIn}
 use Rattle.history.specs.Demands.{AnyCard, Demand2}
-use Rattle.tablets.specs.Tablets.{Ready, Calm, Stores, stored, AllStore, storedAll, InTurn, Sent, now, TwoByTwo, SameSent, withUserData}
+use Rattle.tablets.specs.Tablets.{Ready, Calm, Stores, Reads, stored, AllStore, storedAll, InTurn, Sent, now, TwoByTwo, SameSent, withUserData}
 use Rattle.tablets.proofs.Written.{blockIn, numberIn, wrote}
-use Rattle.tablets.proofs.Storing.{calm-ready, spelled, leaves-ready, leaves-calm, still-stores}
+use Rattle.tablets.proofs.Storing.{calm-ready, spelled, leaves-ready, leaves-calm, still-stores, still-reads}
 use Rattle.tablets.proofs.Values.{none-sent, keptAll, same-value}
 
 -- THE CARD AFTER THEM ALL
@@ -68,6 +68,12 @@ module _ (f : AnyCard) (h : Demand2 f) where
   pub all-calm : (m : List ℕ) → Calm m → (is : List Call) → AllStore f m is → Calm (storedAll f m is)
   all-calm m u [] y = u
   all-calm m u (i ∷ is) y = all-calm (stored f m i) (leaves-calm h (y .0) u) is (all-still m (calm-ready u) i (y .0) is (y .1))
+
+  -- READ_USER_DATA that was accepted before them is accepted after them
+  pub all-reads : (m : List ℕ) → Ready m → (is : List Call) → AllStore f m is → (r : Call) → Reads f m r → Reads f (storedAll f m is) r
+  all-reads m u [] y r x = x
+  all-reads m u (i ∷ is) y r x =
+      all-reads (stored f m i) (leaves-ready h (y .0) u) is (all-still m u i (y .0) is (y .1)) r (still-reads h m u i r (y .0) x)
 
   pub all-spelled : (m : List ℕ) → Ready m → (is : List Call) → AllStore f m is → decode (storedAll f m is) ≡ wroteAll is (decode m)
   all-spelled m u [] y = refl

@@ -30,6 +30,7 @@ use Rattle.history.proofs.Taps.{val-told}
 use Rattle.waits.proofs.Sending.{says}
 use Rattle.tablets.specs.Tablets.{Ready, Reads, userTags, isIn, AllStore, storedAll, Sent, TwoByTwo, userValue}
 use Rattle.tablets.proofs.Accepted.{goes-on, looks, went}
+use Rattle.tablets.proofs.Many.{all-reads}
 use Rattle.tablets.proofs.Held.{by-tag, holds-written}
 
 -- a field that is told only if it is not empty
@@ -69,7 +70,9 @@ module _ (c : Card) (v : View) (d a : List ℕ) where
 
 -- READ_USER_DATA, accepted
 module _ (f : AnyCard) (h : Demand2 f) (m : List ℕ) (i : Call) (r : Reads f m i) where
-  told : response (f .taps .settle (holding m) i) ≡ written (fieldsOf readUserData (decode m .face) (sentIn (i .request)) (i .draw) (i .answers)) ++ be2 swProcessCompleted
+  told :
+      response (f .taps .settle (holding m) i)
+      ≡ written (fieldsOf readUserData (decode m .face) (sentIn (i .request)) (i .draw) (i .answers)) ++ be2 swProcessCompleted
   unfolding done
   told =
       let c = decode m in
@@ -88,14 +91,17 @@ module _ (f : AnyCard) (h : Demand2 f) (m : List ℕ) (i : Call) (r : Reads f m 
       (writes (facts ReadUserData) (c .face) v (i .draw) (i .answers) (small-decode m))
       ∙ tells-value c v (i .draw) (i .answers) t l
 
--- AFTER ANY NUMBER OF E0 that are apart two by two it tells what was sent, and the old value where nothing was
-module _ (f : AnyCard) (h : Demand2 f) (m : List ℕ) (u : Ready m) (is : List Call) (y : AllStore f m is) (two : TwoByTwo is) (i : Call) where
+-- AFTER ANY NUMBER OF E0 that are apart two by two it is accepted where it was before, and tells what was sent, and the old value where nothing was
+module _ (f : AnyCard) (h : Demand2 f) (m : List ℕ) (u : Ready m) (is : List Call) (y : AllStore f m is) (two : TwoByTwo is) (i : Call) (r : Reads f m i) where
+  after : Reads f (storedAll f m is) i
+  after = all-reads f h m u is y i r
+
   pub sent-is-told :
-      Reads f (storedAll f m is) i → (t : ℕ) → isOf t userTags ≡ true → (q : List ℕ) → Sent q is → isIn t (payload q) ≡ true
+      (t : ℕ) → isOf t userTags ≡ true → (q : List ℕ) → Sent q is → isIn t (payload q) ≡ true
       → val t (toldIn (response (f .taps .settle (holding (storedAll f m is)) i))) ≡ val t (sentIn q)
-  sent-is-told r t l q s e = read-tells f h (storedAll f m is) i r t l ∙ holds-written f h m u is y two .sent t l q s e
+  sent-is-told t l q s e = read-tells f h (storedAll f m is) i after t l ∙ holds-written f h m u is y two .sent t l q s e
 
   pub old-is-told :
-      Reads f (storedAll f m is) i → (t : ℕ) → isOf t userTags ≡ true → ((q : List ℕ) → Sent q is → isIn t (payload q) ≡ false)
+      (t : ℕ) → isOf t userTags ≡ true → ((q : List ℕ) → Sent q is → isIn t (payload q) ≡ false)
       → val t (toldIn (response (f .taps .settle (holding (storedAll f m is)) i))) ≡ userValue t (decode m)
-  old-is-told r t l n = read-tells f h (storedAll f m is) i r t l ∙ holds-written f h m u is y two .old t l n
+  old-is-told t l n = read-tells f h (storedAll f m is) i after t l ∙ holds-written f h m u is y two .old t l n
