@@ -1,15 +1,12 @@
 -- A TEXT OF BYTES means notes whose texts are bytes. Assumes nothing.
-use Prim.Native.Nat.{ℕ, zero, suc, _+_, _-_, _≤_, _<_}
-use native.Mathlib.Omega.{arith}
-use native.Mathlib.Decide.{decLt}
+use Prim.Native.Nat.{ℕ, zero, suc, _+_, _-_}
 use mathlib.Core.Path.{_≡_, refl, sym, _∙_}
-use mathlib.Core.List.{List, [], _∷_, _++_}
+use mathlib.Core.List.{List, [], _∷_}
 use mathlib.Core.Bool.{Bool, true, false, cond, _&&_}
-use lib.ListN.{length, take, drop, getD, replicate, length-take, List·getD-eq-default}
-use lib.Seq.{getD-take, getD-drop}
+use lib.ListN.{length}
 use lib.Dec.{ltb}
-use Rattle.wire.specs.Wire.{pad, Bytes}
-use Rattle.wire.proofs.Laws.{padded, pad-none}
+use Rattle.wire.specs.Wire.{Bytes}
+use Rattle.wire.proofs.Bytes.{bytes-take, bytes-drop, bytes-zeros, bytes-pad}
 use Rattle.text.specs.declared.Number.{Number}
 use Rattle.text.specs.declared.Number.the-variants.{Is, None}
 use Rattle.text.specs.Text.{numberOf}
@@ -22,37 +19,7 @@ use Rattle.spelled.specs.Spelled.{EachBytes}
 use Rattle.spelled.proofs.Steps.{notes-none, notes-full, notes-bad, notes-on}
 use Rattle.spelled.proofs.Book.{no-book, same-book}
 
--- PARTS of bytes, bytes side by side, and zeros
-bytes-take : (n : ℕ) (l : List ℕ) → Bytes l → Bytes (take n l)
-bytes-take n l h i = go (decLt i n)
-  where
-    go : Dec (i < n) → getD (take n l) i 0 < 256
-    go (yes p) = let e = getD-take n l i 0 p in let b = h i in omega arith
-    go (no p) =
-        let m : length (take n l) ≤ i = omega (arith, p, length-take n l) in
-        let e = List·getD-eq-default (take n l) 0 m in
-        omega arith
-
-bytes-drop : (n : ℕ) (l : List ℕ) → Bytes l → Bytes (drop n l)
-bytes-drop n l h i = let e = getD-drop n l i 0 in let b = h (n + i) in omega arith
-
-bytes-append : (a b : List ℕ) → Bytes a → Bytes b → Bytes (a ++ b)
-bytes-append [] b h k i = k i
-bytes-append (x ∷ a) b h k zero = h 0
-bytes-append (x ∷ a) b h k (suc i) = bytes-append a b (λ j. h (suc j)) k i
-
-bytes-zeros : (n : ℕ) → Bytes (replicate n 0)
-bytes-zeros zero i = omega arith
-bytes-zeros (suc n) zero = omega arith
-bytes-zeros (suc n) (suc i) = bytes-zeros n i
-
-bytes-pad : (n : ℕ) (w : List ℕ) → Bytes w → Bytes (pad n w)
-bytes-pad n w h = go (decLt n (length w))
-  where
-    go : Dec (n < length w) → Bytes (pad n w)
-    go (yes p) = rw (pad-none n w p) (bytes-zeros n)
-    go (no p) = let k : length w ≤ n = omega (arith, p) in rw (padded n w k) (bytes-append w (replicate (n - length w) 0) h (bytes-zeros (n - length w)))
-
+-- THE FIRST FIELD of a line, and what follows it
 bytes-head : (b : ℕ) (l : List ℕ) → Bytes l → Bytes (headTo b l)
 unfolding headTo
 bytes-head b l h = bytes-take (lengthTo b l) l h

@@ -1,12 +1,13 @@
 -- WHAT AN E0 LEAVES IS BYTES, where the card's image and the request are. Assumes nothing.
-use Prim.Native.Nat.{ℕ, zero, suc, _+_, _-_, _/_, _%_, _<_}
+use Prim.Native.Nat.{ℕ}
 use native.Mathlib.Omega.{arith}
 use mathlib.Core.Path.{_≡_, sym, subst}
-use mathlib.Core.List.{List, [], _∷_, _++_, append-assoc, append-nil}
-use lib.ListN.{length, take, drop, replicate, take-append-drop}
-use lib.Dec.{leb}
-use Rattle.wire.specs.Wire.{be2, be4, part, put, fit, room, num32, pad, joined, Bytes}
+use mathlib.Core.List.{List, [], _∷_, append-assoc, append-nil}
+use lib.ListN.{length, drop, replicate}
+use Rattle.wire.specs.Wire.{be2, be4, pad, joined, Bytes}
 use Rattle.wire.proofs.Laws.{by-cases}
+use Rattle.wire.proofs.Bytes.{bytes-none, bytes-append, bytes-left, bytes-right, bytes-drop, bytes-part, bytes-zeros, bytes-pad}
+use Rattle.wire.proofs.Bytes.{bytes-be2, bytes-be4, num32-most}
 use Rattle.fields.specs.Fields.{View, has, val, viewOf, valueOf}
 use Rattle.fields.specs.declared.Found.{Found}
 use Rattle.fields.specs.declared.Found.the-variants.{At, Absent}
@@ -23,67 +24,6 @@ use Rattle.manual.specs.Tags.{UserData, UserProtectedData, UserCounter, UserPro
 use Rattle.manual.specs.Settle.{sentIn}
 use Rattle.tablets.proofs.Written.{kept, blockIn, numberIn, wrote}
 
--- LISTS OF BYTES: put together, and taken apart
-no-bytes : Bytes []
-no-bytes i = omega arith
-
-bytes-cons : (x : ℕ) (l : List ℕ) → x < 256 → Bytes l → Bytes (x ∷ l)
-bytes-cons x l e b zero = e
-bytes-cons x l e b (suc i) = b i
-
-bytes-both : (a b : List ℕ) → Bytes a → Bytes b → Bytes (a ++ b)
-bytes-both [] b x y = y
-bytes-both (n ∷ a) b x y = bytes-cons n (a ++ b) (x 0) (bytes-both a b (λ i. x (suc i)) y)
-
-bytes-left : (a b : List ℕ) → Bytes (a ++ b) → Bytes a
-bytes-left [] b x = no-bytes
-bytes-left (n ∷ a) b x = bytes-cons n a (x 0) (bytes-left a b (λ i. x (suc i)))
-
-bytes-right : (a b : List ℕ) → Bytes (a ++ b) → Bytes b
-bytes-right [] b x = x
-bytes-right (n ∷ a) b x = bytes-right a b (λ i. x (suc i))
-
-bytes-zeros : (n : ℕ) → Bytes (replicate n 0)
-bytes-zeros zero = no-bytes
-bytes-zeros (suc n) = bytes-cons 0 (replicate n 0) (omega arith) (bytes-zeros n)
-
-bytes-take : (n : ℕ) (l : List ℕ) → Bytes l → Bytes (take n l)
-bytes-take n l b = bytes-left (take n l) (drop n l) (subst Bytes (sym (take-append-drop n l)) b)
-
-bytes-drop : (n : ℕ) (l : List ℕ) → Bytes l → Bytes (drop n l)
-bytes-drop n l b = bytes-right (take n l) (drop n l) (subst Bytes (sym (take-append-drop n l)) b)
-
-bytes-part : (l : List ℕ) (at n : ℕ) → Bytes l → Bytes (part l at n)
-unfolding part
-bytes-part l at n b =
-    by-cases Bytes (leb at (length l))
-    (λ _. by-cases Bytes (leb n (length l - at)) (λ _. bytes-take n (drop at l) (bytes-drop at l b)) (λ _. no-bytes))
-    (λ _. no-bytes)
-
--- numbers in two bytes and in four
-two-bytes : (x y : ℕ) → x < 256 → y < 256 → Bytes (x ∷ y ∷ [])
-two-bytes x y a b = bytes-cons x (y ∷ []) a (bytes-cons y [] b no-bytes)
-
-bytes-be2 : (n : ℕ) → n < 65536 → Bytes (be2 n)
-bytes-be2 n l = two-bytes (n / 256) (n % 256) (omega arith) (omega arith)
-
-bytes-be4 : (n : ℕ) → n < 4294967296 → Bytes (be4 n)
-bytes-be4 n l =
-    bytes-both (n / 16777216 ∷ n / 65536 % 256 ∷ []) (n / 256 % 256 ∷ n % 256 ∷ [])
-    (two-bytes (n / 16777216) (n / 65536 % 256) (omega arith) (omega arith))
-    (two-bytes (n / 256 % 256) (n % 256) (omega arith) (omega arith))
-
-pub num32-most : (l : List ℕ) → Bytes l → num32 l 0 < 4294967296
-num32-most l b = omega (arith, b 0, b 1, b 2, b 3)
-
-bytes-pad : (n : ℕ) (x : List ℕ) → Bytes x → Bytes (pad n x)
-unfolding fit put
-bytes-pad n x b =
-    let z : List ℕ = replicate n 0 in
-    by-cases Bytes (room (length z) 0 (length x)) {x = put z 0 x} {y = z}
-    (λ _. bytes-both x (drop (0 + length x) z) b (bytes-drop (0 + length x) z (bytes-zeros n)))
-    (λ _. bytes-zeros n)
-
 -- parts one after the other
 abbrev Each : List (List ℕ) → Type 0
 Each [] = Unit {0}
@@ -91,8 +31,8 @@ Each (g ∷ gs) = Bytes g × Each gs
 
 together : (gs : List (List ℕ)) → Each gs → Bytes (joined gs)
 unfolding joined
-together [] e = no-bytes
-together (g ∷ gs) e = bytes-both g (joined gs) (e .0) (together gs (e .1))
+together [] e = bytes-none
+together (g ∷ gs) e = bytes-append g (joined gs) (e .0) (together gs (e .1))
 
 one-by-one : (gs : List (List ℕ)) → Bytes (joined gs) → Each gs
 unfolding joined
@@ -106,11 +46,11 @@ bytes-sent t q b = found (sentIn q .at t)
   where
     body : (z : Lc) → Bytes (payloadBy z q)
     body (Body n) = bytes-drop n q b
-    body Wrong = no-bytes
+    body Wrong = bytes-none
 
     found : (z : Found) → Bytes (valueOf (payload q) z)
     found (At n k) = bytes-part (payload q) n k (body (lcOf q))
-    found Absent = no-bytes
+    found Absent = bytes-none
 
 -- THE GROUPS of an image, the counters one by one
 abbrev groups : Card → List (List ℕ)
@@ -134,12 +74,14 @@ module _ (t : ℕ) (v : View) (b : Bytes (val t v)) where
   unfolding encBlock
   block-bytes x old =
       by-cases (λ (y : Block). Bytes (encBlock y)) (has t v)
-      (λ _. bytes-both (be2 (u16 (length (val t v)))) (pad dataRoom (val t v)) (bytes-be2 (u16 (length (val t v))) (omega arith)) (bytes-pad dataRoom (val t v) b))
+      (λ _.
+      let d = val t v in
+      bytes-append (be2 (u16 (length d))) (pad dataRoom d) (bytes-be2 (u16 (length d)) (omega arith)) (bytes-pad dataRoom d b))
       (λ _. old)
 
 no-pending-bytes : Bytes (encPending noPending)
 unfolding encPending encWait
-no-pending-bytes = bytes-both (0 ∷ 0 ∷ 0 ∷ 0 ∷ []) (replicate heldRoom 0) (bytes-zeros 4) (bytes-zeros heldRoom)
+no-pending-bytes = bytes-append (0 ∷ 0 ∷ 0 ∷ 0 ∷ []) (replicate heldRoom 0) (bytes-zeros 4) (bytes-zeros heldRoom)
 
 pub bytes-wrote : (v : View) (c : Card) → ((t : ℕ) → Bytes (val t v)) → Bytes (encode c) → Bytes (encode (wrote v c))
 bytes-wrote v c s b =
@@ -153,6 +95,7 @@ bytes-wrote v c s b =
     let protected = number-bytes UserProtectedCounter v (s UserProtectedCounter) (x .protected) (n .1 .1 .1 .0) in
     let block = block-bytes UserData v (s UserData) (y .user) (d .0) in
     let hidden = block-bytes UserProtectedData v (s UserProtectedData) (y .protected) (d .1 .0) in
-    subst Bytes (sym (in-groups (wrote v c)))
-    (together (groups (wrote v c))
-    (e .0, (e .1 .0, (e .1 .1 .0, (e .1 .1 .1 .0, (k .0, (n .0, (n .1 .0, (user, (protected, (block, (hidden, (d .1 .1 .0, (no-pending-bytes, (d .1 .1 .1 .1 .0, tt)))))))))))))))
+    let gs = groups (wrote v c) in
+    let last : Each (drop 9 gs) = (block, (hidden, (d .1 .1 .0, (no-pending-bytes, (d .1 .1 .1 .1 .0, tt))))) in
+    let numbers : Each (drop 5 gs) = (n .0, (n .1 .0, (user, (protected, last)))) in
+    subst Bytes (sym (in-groups (wrote v c))) (together gs (e .0, (e .1 .0, (e .1 .1 .0, (e .1 .1 .1 .0, (k .0, numbers))))))
