@@ -1,5 +1,5 @@
 -- WHAT THE CARD HOLDS after any number of E0 that are apart two by two, and that READ_USER_DATA tells it. Assumes nothing.
-use Prim.Native.Nat.{ℕ}
+use Prim.Native.Nat.{ℕ, _+_}
 use native.Mathlib.Omega.{arith}
 use mathlib.Core.Path.{_≡_, refl, sym, ap, _∙_, subst}
 use mathlib.Core.List.{List, [], _∷_}
@@ -9,28 +9,29 @@ use lib.Seq.{take-all}
 use lib.Dec.{eqb}
 use borrow.Author.Tests.{eqb-true}
 use Rattle.wire.specs.Wire.{be4, Bytes}
-use Rattle.wire.proofs.Laws.{by-cases, both-true}
+use Rattle.wire.proofs.Laws.{both-true}
 use Rattle.wire.proofs.Parts.{part-pad, part32}
-use Rattle.fields.specs.Fields.{View, has, val}
+use Rattle.fields.specs.Fields.{View, has, val, written}
 use Rattle.card.specs.declared.Card.{Card}
 use Rattle.card.specs.Layout.{dataRoom}
 use Rattle.card.specs.Values.{u16, blockOf}
 use Rattle.card.specs.Image.{decode}
+use Rattle.manual.specs.Words.{swProcessCompleted}
 use Rattle.manual.specs.Tags.{UserData, UserProtectedData, UserCounter, UserProtectedCounter}
-use Rattle.manual.specs.declared.Verdict.{Verdict}
-use Rattle.manual.specs.declared.Verdict.the-variants.{Pass, Stop}
 use Rattle.manual.specs.Request.{command, payload}
-use Rattle.manual.specs.Row.{Rule, gateOf, passed}
+use Rattle.manual.specs.Row.{passed}
 use Rattle.manual.specs.Storage.{isData, isNumber, blockSent, numberSent, anySent, userFields}
 use Rattle.manual.specs.Commands.{row}
-use Rattle.manual.specs.Settle.{Call, sentIn, matched, judgedBy}
+use Rattle.manual.specs.Settle.{Call, sentIn, matched, fieldsOf, done}
+use Rattle.story.specs.Sums.{accepted}
 use Rattle.facts.proofs.Storage.{data-long}
 use Rattle.history.specs.Demands.{AnyCard, Demand2}
-use Rattle.history.specs.Facts.{checksOf, isOf}
+use Rattle.history.specs.Facts.{isOf}
 use Rattle.history.proofs.Choice.{clash, or-false}
-use Rattle.history.proofs.Taps.{Every, named}
+use Rattle.history.proofs.Taps.{accepts, carried}
+use Rattle.history.proofs.Cards.{done-is}
 use Rattle.tablets.specs.Tablets.{Ready, Stores, stored, userTags, isIn, AllStore, storedAll, Sent, now, later, again, TwoByTwo, userValue, WrittenBy}
-use Rattle.tablets.proofs.Accepted.{went}
+use Rattle.tablets.proofs.Accepted.{goes-on, went}
 use Rattle.tablets.proofs.Written.{blockIn, numberIn}
 use Rattle.tablets.proofs.Bytes.{bytes-sent}
 use Rattle.tablets.proofs.Storing.{is-write, leaves-ready, still-stores}
@@ -50,17 +51,7 @@ by-tag P a b c d t e = go (eqb UserData t) (eqb UserProtectedData t) (eqb UserCo
     go false false false true i j k l e = subst P (eqb-true UserProtectedCounter t l) d
     go false false false false i j k l e = clash e refl
 
--- WHAT CHECK 11 ASKS of the fields that are there
-abbrev isPass : Verdict → Bool
-isPass (Pass k) = true
-isPass (Stop n w) = false
-
-every-holds : (rs : List Rule) (q : List ℕ) → isPass (gateOf rs (passed q)) ≡ true → Every rs
-every-holds [] q = λ e. tt
-every-holds (r ∷ rs) q =
-    by-cases (λ g. isPass g ≡ true → Every (r ∷ rs)) (r .ok) (λ o e. (o, every-holds rs q e)) (λ _ e. clash e refl)
-
--- a view whose fields are in their form
+-- WHAT CHECK 11 ASKS of the fields that are there: a view whose fields are in their form
 record Formed (v : View) : Type 0 where
   pub block : blockSent UserData v ≡ true
   pub hidden : blockSent UserProtectedData v ≡ true
@@ -77,13 +68,18 @@ formed v e =
 
 module _ {f : AnyCard} (h : Demand2 f) {m : List ℕ} {i : Call} (y : Stores f m i) where
   right-fields : userFields (sentIn (i .request)) ≡ true
-  unfolding judgedBy
+  unfolding done
   right-fields =
       let c = decode m in
       let q = i .request in
-      let x = matched (c .codes) (sentIn q) in
-      let p = named (row (command q)) x (c .face) q (every-holds (checksOf (row (command q)) x (c .face) q) q (ap isPass (went h y .verdict))) in
-      sym (ap (λ k. row k .fields (c .face) (sentIn q)) (is-write h y)) ∙ p .fields
+      let v = sentIn q in
+      let x = matched (c .codes) v in
+      let r = row (command q) in
+      let told = fieldsOf r (r .next (c .face) v (i .answers)) v (i .draw) (i .answers) in
+      let e =
+      ap (λ s. accepted (s .response)) (goes-on c q (i .draw) (i .answers) (went h y))
+      ∙ accepts (written told) (swProcessCompleted + r .more x) ∙ done-is (command q) x in
+      sym (ap (λ k. row k .fields (c .face) v) (is-write h y)) ∙ carried x (c .face) q (i .draw) (i .answers) e .passed .fields
 
 -- of each request that was sent
 module _ {f : AnyCard} (h : Demand2 f) (m : List ℕ) where
@@ -137,15 +133,15 @@ module _ (f : AnyCard) (h : Demand2 f) (m : List ℕ) (u : Ready m) where
         (λ n. ap be4 (stays-old UserCounter (numberIn UserCounter) is (c .face .front .counters .user) n))
         (λ n. ap be4 (stays-old UserProtectedCounter (numberIn UserProtectedCounter) is (c .face .front .counters .protected) n))
 
-  written : (is : List Call) → AllStore f m is → TwoByTwo is → WrittenBy is c (wroteAll is c)
+  all-written : (is : List Call) → AllStore f m is → TwoByTwo is → WrittenBy is c (wroteAll is c)
   unfolding sentIn
-  written [] y two = record { sent = λ t l q s e. absurd (none-sent s); old = λ t l n. refl; rest = refl }
-  written (i ∷ is) y two =
+  all-written [] y two = record { sent = λ t l q s e. absurd (none-sent s); old = λ t l n. refl; rest = refl }
+  all-written (i ∷ is) y two =
       subst (WrittenBy (i ∷ is) c) (sym (by-values i is c))
       (record { sent = value-sent (i ∷ is) y two; old = value-old (i ∷ is) y two; rest = refl })
 
   pub holds-written : (is : List Call) → AllStore f m is → TwoByTwo is → WrittenBy is c (decode (storedAll f m is))
-  holds-written is y two = subst (WrittenBy is c) (sym (all-spelled f h m u is y)) (written is y two)
+  holds-written is y two = subst (WrittenBy is c) (sym (all-spelled f h m u is y)) (all-written is y two)
 
 -- THE LATER ONE STANDS: what an accepted E0 sends is what the card then holds, whatever was there before; so too where another has sent the same tag
 module _ (f : AnyCard) (h : Demand2 f) (m : List ℕ) (u : Ready m) where

@@ -5,6 +5,7 @@ use mathlib.Core.List.{List, [], _∷_, _++_}
 use mathlib.Core.Bool.{true, false}
 use native.Mathlib.Omega.{arith}
 use lib.ListN.{length}
+use lib.Seq.{take-all}
 use lib.Dec.{eqb}
 use borrow.Author.Tests.{eqb-true, eq-eqb}
 use Rattle.wire.specs.Wire.{be2, be4}
@@ -34,14 +35,10 @@ use Rattle.tablets.proofs.Many.{all-reads}
 use Rattle.tablets.proofs.Held.{by-tag, holds-written}
 
 -- a field that is told only if it is not empty
-no-elements : (d : List ℕ) → length d ≡ 0 → [] ≡ d
-no-elements [] e = refl
-no-elements (x ∷ d) e = absurd (omega (arith, e))
-
 first-own : (t : ℕ) (d : List ℕ) (rest : List Tagged) → firstOf t rest ≡ [] → firstOf t (heldField t d ++ rest) ≡ d
 first-own t d rest e =
     by-cases (λ (l : List Tagged). firstOf t (l ++ rest) ≡ d) (eqb (length d) 0)
-    (λ z. e ∙ no-elements d (eqb-true (length d) 0 z))
+    (λ z. e ∙ take-all 0 d (omega (arith, eqb-true (length d) 0 z)))
     (λ _. rw (eq-eqb t t refl) refl)
 
 first-other : (t s : ℕ) (d : List ℕ) (rest : List Tagged) → eqb s t ≡ false → firstOf t (heldField s d ++ rest) ≡ firstOf t rest

@@ -1,5 +1,5 @@
--- WHAT MANY E0 LEAVE OF ONE VALUE, over any tag and any way to read it: what a request has there that all others agree with, or the old value where none has one.
--- So it is the same for the same requests in any order, some of them sent again. Assumes nothing.
+-- WHAT MANY E0 LEAVE OF ONE VALUE, over any tag and any way to read it: what a request has there that all others agree with, or the old value where none has
+-- one. So it is the same for the same requests in any order, some of them sent again. Assumes nothing.
 use Prim.Native.Nat.{ℕ}
 use mathlib.Core.Path.{_≡_, refl, sym, ap, _∙_, subst}
 use mathlib.Core.List.{List, [], _∷_}
