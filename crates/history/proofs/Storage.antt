@@ -18,7 +18,7 @@ use Rattle.kept.proofs.Next.{ok-counters, ok-user, ok-protected, ok-issuer}
 use Rattle.manual.specs.Tags.{UserData, UserProtectedData, UserCounter, UserProtectedCounter, IssuerData, IssuerDataSignature}
 use Rattle.manual.specs.declared.Command.the-variants.{ReadUserData, WriteUserData, WriteIssuerData, ReadIssuerData}
 use Rattle.manual.specs.Row.{Matched}
-use Rattle.manual.specs.Storage.{heldField, isData, blockSent, numberSent, anySent, storedBlock, storedCounters, guarded, sentCounter, keptCounter}
+use Rattle.manual.specs.Storage.{heldField, isData, blockSent, numberSent, anySent, userFields, storedBlock, storedCounters, guarded, sentCounter, keptCounter}
 use Rattle.manual.specs.Storage.{noteOf, noteFields, readUserData, writeUserData, writeIssuerData, readIssuerData}
 use Rattle.manual.specs.Settle.{sentIn}
 use Rattle.facts.proofs.Storage.{data-long, note}
@@ -34,6 +34,21 @@ stored-ok t v b o e =
     by-cases (λ (z : Block). okBlock z ≡ true) (has t v)
     (λ h. held-block-ok (val t v) (data-long (val t v) (or-false (not (has t v)) (isData (val t v)) e (ap not h)) .1))
     (λ _. o)
+
+-- what check 11 asks of each field of an E0 that is there
+pub record Formed (v : View) : Type 0 where
+  pub block : blockSent UserData v ≡ true
+  pub hidden : blockSent UserProtectedData v ≡ true
+  pub number : numberSent UserCounter v ≡ true
+  pub guarded : numberSent UserProtectedCounter v ≡ true
+
+pub formed : (v : View) → userFields v ≡ true → Formed v
+formed v e =
+    let x = both-true (anySent v) _ e .1 in
+    let y = both-true (blockSent UserData v && blockSent UserProtectedData v) (numberSent UserCounter v && numberSent UserProtectedCounter v) x in
+    let b = both-true (blockSent UserData v) (blockSent UserProtectedData v) (y .0) in
+    let n = both-true (numberSent UserCounter v) (numberSent UserProtectedCounter v) (y .1) in
+    record { block = b .0; hidden = b .1; number = n .0; guarded = n .1 }
 
 -- what check 12 asks of a note on a protected card
 pub above : (m : Matched) (f : Face) (v : View) → Passed writeIssuerData m f v → guarded f ≡ true → f .held .issuer .counter < sentCounter v
@@ -67,13 +82,11 @@ module _ (m : Matched) (f : Face) (q d a : List ℕ) where
         keeps = λ sh x h r i t s. rw (t .create, t .pin, t .sign, t .purge, t .activate) i;
         stays = λ o g.
             let y = valid f o in
-            let b = both-true (anySent v) _ (p .fields) .1 in
-            let c = both-true (blockSent UserData v && blockSent UserProtectedData v) (numberSent UserCounter v && numberSent UserProtectedCounter v) b .0 in
-            let e = both-true (blockSent UserData v) (blockSent UserProtectedData v) c in
+            let e = formed v (p .fields) in
             let x = storedBlock UserData v (f .held .user) in
             let z = storedBlock UserProtectedData v (f .held .protected) in
-            let i = ok-user f o x (stored-ok UserData v (f .held .user) (y .user) (e .0)) in
-            let j = ok-protected (withUser x f) i z (stored-ok UserProtectedData v (f .held .protected) (y .protected) (e .1)) in
+            let i = ok-user f o x (stored-ok UserData v (f .held .user) (y .user) (e .block)) in
+            let j = ok-protected (withUser x f) i z (stored-ok UserProtectedData v (f .held .protected) (y .protected) (e .hidden)) in
             ok-counters (withProtected z (withUser x f)) j (storedCounters v (f .front .counters));
         alive = λ u e. clash u refl;
         climbs = λ g. same refl refl;

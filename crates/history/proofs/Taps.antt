@@ -212,6 +212,7 @@ pub record Stopped (m : Matched) (f : Face) (q : List ℕ) (n w : ℕ) : Type 0 
 
 -- all of them hold, and it need not wait
 pub record Through (m : Matched) (f : Face) (q : List ℕ) : Type 0 where
+  pub verdict : judged m f q ≡ passed q
   pub passed : Passed (row (command q)) m f (sentIn q)
   pub all : AllHold (checksOf (row (command q)) m f q)
   pub goes : seconds (row (command q)) f (sentIn q) q ≡ 0
@@ -269,11 +270,11 @@ module _ (P : Said → ℕ → ℕ → List Question → Type 0) (m : Matched) (
       by-wait (Stop n w) (λ j k. h .before j (omega (arith, k, leb-true 11 n l))) waits
       (λ y. subst (λ z. P (refused n w (withPending z f)) n w []) (rw l refl) (stop (λ _. y))))
       (λ l. subst (λ z. P (refused n w (withPending z f)) n w []) (rw l refl) (stop (λ y. clash y l))))
-      (λ h _.
+      (λ h k.
       let b = all-hold (checksOf r m f q) h in
       by-wait (passed q) (λ j _. b j) waits
       (λ y.
-      let u : Through m f q = record { passed = named r m f q h; all = b; goes = y } in
+      let u : Through m f q = record { verdict = k; passed = named r m f q h; all = b; goes = y } in
       by-cases (λ z. P (leaving noPending z) 0 swProcessCompleted (r .questions f v d)) (shaped (r .questions f v d) a)
       (λ e.
       by-cases (λ z. P (leaving noPending z) 0 swProcessCompleted (r .questions f v d)) (r .confirmed a)
