@@ -3,44 +3,32 @@
 use Prim.Native.Nat.{ℕ}
 use native.Mathlib.Omega.{arith}
 use mathlib.Core.Path.{_≡_, refl, sym, ap, _∙_}
-use mathlib.Core.List.{List, [], _∷_}
-use mathlib.Core.Bool.{true, not, _||_}
+use mathlib.Core.List.{List}
+use mathlib.Core.Bool.{true}
 use lib.ListN.{length}
 use lib.Dec.{eqb}
-use borrow.Author.Tests.{eq-eqb}
 use Rattle.wire.specs.Wire.{Bytes}
-use Rattle.wire.proofs.Laws.{both-true}
 use Rattle.card.specs.declared.Card.{Card}
 use Rattle.card.specs.Values.{noPending}
 use Rattle.card.specs.Image.{decode}
 use Rattle.card.specs.Valid.{isCard}
 use Rattle.manual.specs.Words.{swProcessCompleted, drawSize}
 use Rattle.manual.specs.declared.Command.{Command}
-use Rattle.manual.specs.declared.Verdict.{Verdict}
 use Rattle.manual.specs.declared.Verdict.the-variants.{Pass}
 use Rattle.manual.specs.Request.{code, command}
-use Rattle.manual.specs.Row.{Matched, Rule, gateOf, passed, shaped}
+use Rattle.manual.specs.Row.{Matched, shaped}
 use Rattle.manual.specs.Commands.{row}
 use Rattle.manual.specs.Delay.{entered}
-use Rattle.manual.specs.Settle.{holding, Call, sentIn, matched, judgedBy, judged, done, answered, saidBy, said, leaving, pacedTo, lent, roomy}
+use Rattle.manual.specs.Settle.{holding, Call, sentIn, matched, judged, done, answered, saidBy, said, leaving, pacedTo, lent, roomy}
 use Rattle.story.specs.Sums.{isDone, ins}
 use Rattle.history.specs.Demands.{AnyCard, Demand2, settleStop}
-use Rattle.history.specs.Facts.{checksOf, checkHolds, AllHold}
 use Rattle.history.specs.Waiting.{waitOf}
 use Rattle.history.proofs.Choice.{clash}
-use Rattle.history.proofs.Taps.{by-outcome}
+use Rattle.history.proofs.Taps.{Passed, by-outcome}
 use Rattle.history.proofs.Images.{stop-none, saidAt}
 use Rattle.waits.proofs.Pace.{pace-goes, paced-by}
 use Rattle.waits.proofs.Sending.{number-goes, number-is, settles-as}
 use Rattle.tablets.specs.Tablets.{Accepts}
-
--- where every check holds, the gate lets the request pass
-all-pass : (rs : List Rule) (g : Verdict) → AllHold rs → gateOf rs g ≡ g
-all-pass [] g h = refl
-all-pass (r ∷ rs) g h =
-    let own = both-true (not (eqb (r .check) (r .check)) || r .ok) (checkHolds (r .check) rs) (h (r .check)) .0 in
-    let ok : r .ok ≡ true = rw (eq-eqb (r .check) (r .check) refl) at own in
-    rw ok (all-pass rs g (λ j. both-true (not (eqb (r .check) j) || r .ok) (checkHolds j rs) (h j) .1))
 
 -- WHAT GOES ON on a card, of a request q, a draw d and answers a
 pub record Goes (c : Card) (q d a : List ℕ) : Type 0 where
@@ -53,21 +41,15 @@ module _ (c : Card) (q d a : List ℕ) where
   abbrev x : Matched
   x = matched (c .codes) (sentIn q)
 
-  goes : pacedTo c q d a .number ≡ 0 → isDone (pacedTo c q d a .word) ≡ true → Goes c q d a
-  unfolding judgedBy done
+  goes : pacedTo c q d a .number ≡ 0 → isDone (pacedTo c q d a .word) ≡ true → Goes c q d a × Passed (row (command q)) x (c .face) (sentIn q)
+  unfolding done
   goes =
-      by-outcome (λ z _ _ _. z .number ≡ 0 → isDone (z .word) ≡ true → Goes c q d a) x (c .face) q d a
+      by-outcome (λ z _ _ _. z .number ≡ 0 → isDone (z .word) ≡ true → Goes c q d a × Passed (row (command q)) x (c .face) (sentIn q)) x (c .face) q d a
       (λ n w h _ e. clash e (h .notDone))
       (λ t h _ e. clash e refl)
       (λ h _ n _. absurd (omega arith))
       (λ h _ _ _ e. clash e refl)
-      (λ h s y _ _.
-      record {
-        verdict = all-pass (checksOf (row (command q)) x (c .face) q) (passed q) (h .all);
-        prompt = h .goes;
-        shape = s;
-        yes = y;
-      })
+      (λ h s y _ _. (record { verdict = h .verdict; prompt = h .goes; shape = s; yes = y }, h .passed))
 
   pub goes-on : Goes c q d a → pacedTo c q d a ≡ leaving noPending (done (row (command q)) x (c .face) (sentIn q) d a)
   unfolding said answered
@@ -80,13 +62,21 @@ module _ {f : AnyCard} (h : Demand2 f) {k : Command} {m : List ℕ} {i : Call} (
   pub looks : settleStop (holding m) i ≡ 0
   looks = number-goes h (holding m) i (y .number)
 
-  pub went : Goes (decode m) (i .request) (i .draw) (i .answers)
+  held-to :
+      Goes (decode m) (i .request) (i .draw) (i .answers)
+      × Passed (row (command (i .request))) (matched (decode m .codes) (sentIn (i .request))) (decode m .face) (sentIn (i .request))
   unfolding lent
-  went =
+  held-to =
       let n : saidAt (holding m) i .number ≡ 0 = sym (number-is h (holding m) i looks) ∙ y .number in
       let e = settles-as h (holding m) i looks refl in
       let w : saidAt (holding m) i .word ≡ swProcessCompleted = rw n at (sym (ap (λ z. z .result .word) e) ∙ y .word) in
       goes (decode m) (i .request) (i .draw) (i .answers) n (rw w refl)
+
+  pub went : Goes (decode m) (i .request) (i .draw) (i .answers)
+  went = held-to .0
+
+  pub has-passed : Passed (row (command (i .request))) (matched (decode m .codes) (sentIn (i .request))) (decode m .face) (sentIn (i .request))
+  has-passed = held-to .1
 
 -- WHAT GOES ON IS ACCEPTED: on another card, by a call that was none of numbers 1 to 3 on this one, where the command has no other word than 9000
 module _ {f : AnyCard} (h : Demand2 f) (m m′ : List ℕ) (i : Call) (old : settleStop (holding m) i ≡ 0) (o : isCard m′ ≡ true) where

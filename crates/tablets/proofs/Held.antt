@@ -1,37 +1,32 @@
--- WHAT THE CARD HOLDS after any number of E0 that are apart two by two, and that READ_USER_DATA tells it. Assumes nothing.
-use Prim.Native.Nat.{ℕ, _+_}
+-- WHAT THE CARD HOLDS after any number of E0 that are apart two by two; and that of two with a tag in common the later one stands. Assumes nothing.
+use Prim.Native.Nat.{ℕ}
 use native.Mathlib.Omega.{arith}
 use mathlib.Core.Path.{_≡_, refl, sym, ap, _∙_, subst}
 use mathlib.Core.List.{List, [], _∷_}
-use mathlib.Core.Bool.{Bool, true, false, not, _&&_, _||_}
+use mathlib.Core.Bool.{Bool, true, false, not, _||_}
 use lib.ListN.{length}
 use lib.Seq.{take-all}
 use lib.Dec.{eqb}
 use borrow.Author.Tests.{eqb-true}
 use Rattle.wire.specs.Wire.{be4, Bytes}
-use Rattle.wire.proofs.Laws.{both-true}
 use Rattle.wire.proofs.Parts.{part-pad, part32}
-use Rattle.fields.specs.Fields.{View, has, val, written}
+use Rattle.fields.specs.Fields.{View, has, val}
 use Rattle.card.specs.declared.Card.{Card}
 use Rattle.card.specs.Layout.{dataRoom}
 use Rattle.card.specs.Values.{u16, blockOf}
 use Rattle.card.specs.Image.{decode}
-use Rattle.manual.specs.Words.{swProcessCompleted}
 use Rattle.manual.specs.Tags.{UserData, UserProtectedData, UserCounter, UserProtectedCounter}
-use Rattle.manual.specs.Request.{command, payload}
-use Rattle.manual.specs.Row.{passed}
-use Rattle.manual.specs.Storage.{isData, isNumber, blockSent, numberSent, anySent, userFields}
+use Rattle.manual.specs.Request.{payload}
+use Rattle.manual.specs.Storage.{isData, isNumber, blockSent, numberSent, userFields}
 use Rattle.manual.specs.Commands.{row}
-use Rattle.manual.specs.Settle.{Call, sentIn, matched, fieldsOf, done}
-use Rattle.story.specs.Sums.{accepted}
+use Rattle.manual.specs.Settle.{Call, sentIn}
 use Rattle.facts.proofs.Storage.{data-long}
 use Rattle.history.specs.Demands.{AnyCard, Demand2}
 use Rattle.history.specs.Facts.{isOf}
 use Rattle.history.proofs.Choice.{clash, or-false}
-use Rattle.history.proofs.Taps.{accepts, carried}
-use Rattle.history.proofs.Cards.{done-is}
+use Rattle.history.proofs.Storage.{Formed, formed}
 use Rattle.tablets.specs.Tablets.{Ready, Stores, stored, userTags, isIn, AllStore, storedAll, Sent, now, later, again, TwoByTwo, userValue, WrittenBy}
-use Rattle.tablets.proofs.Accepted.{goes-on, went}
+use Rattle.tablets.proofs.Accepted.{has-passed}
 use Rattle.tablets.proofs.Written.{blockIn, numberIn}
 use Rattle.tablets.proofs.Bytes.{bytes-sent}
 use Rattle.tablets.proofs.Storing.{is-write, leaves-ready, still-stores}
@@ -51,35 +46,9 @@ by-tag P a b c d t e = go (eqb UserData t) (eqb UserProtectedData t) (eqb UserCo
     go false false false true i j k l e = subst P (eqb-true UserProtectedCounter t l) d
     go false false false false i j k l e = clash e refl
 
--- WHAT CHECK 11 ASKS of the fields that are there: a view whose fields are in their form
-record Formed (v : View) : Type 0 where
-  pub block : blockSent UserData v ≡ true
-  pub hidden : blockSent UserProtectedData v ≡ true
-  pub number : numberSent UserCounter v ≡ true
-  pub guarded : numberSent UserProtectedCounter v ≡ true
-
-formed : (v : View) → userFields v ≡ true → Formed v
-formed v e =
-    let x = both-true (anySent v) _ e .1 in
-    let y = both-true (blockSent UserData v && blockSent UserProtectedData v) (numberSent UserCounter v && numberSent UserProtectedCounter v) x in
-    let b = both-true (blockSent UserData v) (blockSent UserProtectedData v) (y .0) in
-    let n = both-true (numberSent UserCounter v) (numberSent UserProtectedCounter v) (y .1) in
-    record { block = b .0; hidden = b .1; number = n .0; guarded = n .1 }
-
-module _ {f : AnyCard} (h : Demand2 f) {m : List ℕ} {i : Call} (y : Stores f m i) where
-  right-fields : userFields (sentIn (i .request)) ≡ true
-  unfolding done
-  right-fields =
-      let c = decode m in
-      let q = i .request in
-      let v = sentIn q in
-      let x = matched (c .codes) v in
-      let r = row (command q) in
-      let told = fieldsOf r (r .next (c .face) v (i .answers)) v (i .draw) (i .answers) in
-      let e =
-      ap (λ s. accepted (s .response)) (goes-on c q (i .draw) (i .answers) (went h y))
-      ∙ accepts (written told) (swProcessCompleted + r .more x) ∙ done-is (command q) x in
-      sym (ap (λ k. row k .fields (c .face) v) (is-write h y)) ∙ carried x (c .face) q (i .draw) (i .answers) e .passed .fields
+-- WHAT CHECK 11 ASKED of an accepted request: its fields are in their form
+right-fields : {f : AnyCard} (h : Demand2 f) {m : List ℕ} {i : Call} → Stores f m i → userFields (sentIn (i .request)) ≡ true
+right-fields h {m} {i} y = sym (ap (λ k. row k .fields (decode m .face) (sentIn (i .request))) (is-write h y)) ∙ has-passed h y .fields
 
 -- of each request that was sent
 module _ {f : AnyCard} (h : Demand2 f) (m : List ℕ) where
