@@ -25,17 +25,17 @@ static complaint read_message(const char *text, explain_kind kind, operand *read
 }
 
 /* A response is read in the light of the request before it: 9000 has another name after SET_PIN. */
-static void explain_one(const operand *one, message request)
+static void explain_one(explain_form form, const operand *one, message request)
 {
     switch (one->kind) {
-    case EXPLAIN_RESPONSE: explain_response(stdout, request, one->m); break;
-    case EXPLAIN_QUESTIONS: explain_questions(stdout, one->m); break;
-    default: explain_request(stdout, one->m);
+    case EXPLAIN_RESPONSE: explain_response(stdout, form, request, one->m); break;
+    case EXPLAIN_QUESTIONS: explain_questions(stdout, form, one->m); break;
+    default: explain_request(stdout, form, one->m);
     }
 }
 
 /* All are read before the first is shown, so that wrong input prints nothing. */
-complaint explain_messages(explain_kind kind, size_t count, char **messages)
+complaint explain_messages(explain_kind kind, explain_form form, size_t count, char **messages)
 {
     static operand one, before;
     message request = {before.bytes, 0};
@@ -46,8 +46,8 @@ complaint explain_messages(explain_kind kind, size_t count, char **messages)
     }
     for (size_t at = 0; at < count; at++) {
         read_message(messages[at], kind, &one);
-        fputs(at > 0 ? "\n" : "", stdout);
-        explain_one(&one, request);
+        fputs(at > 0 && form == EXPLAIN_LINES ? "\n" : "", stdout);
+        explain_one(form, &one, request);
         before = one;
         request.length = one.kind == EXPLAIN_REQUEST ? one.m.length : 0;
     }

@@ -128,7 +128,7 @@ static complaint run_record(const options *given, size_t count, char **operands)
 
 static complaint run_explain(const options *given, size_t count, char **operands)
 {
-    return explain_messages(given->kind, count, operands);
+    return explain_messages(given->kind, given->set.json ? EXPLAIN_OBJECT : EXPLAIN_LINES, count, operands);
 }
 
 static complaint run_told(const options *given, size_t count, char **operands)
@@ -154,7 +154,7 @@ static const command commands[] = {
     {"keys", "CARD", "the public keys of the card and of its issuer", OPTION_SEED, 1, 1, run_keys},
     {"record", "SHEET FILE REQUEST..", "a recording from a fresh card: the sheet, then a line for each tap", SENT, 2, MANY, run_record},
     {"record", "CARD FILE REQUEST..", "as send, and put each tap's line at the end of FILE, the card's recording", SENT, 2, MANY, run_record},
-    {"explain", "MESSAGE..", "requests or responses in hex, taken apart; no card is needed", OPTION_KINDS, 1, MANY, run_explain},
+    {"explain", "MESSAGE..", "requests or responses in hex, taken apart; no card is needed", OPTION_KINDS OPTION_JSON, 1, MANY, run_explain},
     {"told", "RECORDING", "what the player printed, on standard input, told in words; ./play --words does it", OPTION_JSON, 1, 1, run_told},
 };
 #define COMMANDS (sizeof commands / sizeof *commands)

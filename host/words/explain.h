@@ -16,12 +16,21 @@ typedef enum { EXPLAIN_UNKNOWN, EXPLAIN_REQUEST, EXPLAIN_RESPONSE, EXPLAIN_QUEST
 /* A request or a response, where the bytes tell. */
 explain_kind explain_guess(message m);
 
-void explain_request(FILE *out, message m);
+/* As lines for a person, as a JSON object on a line of its own, or as the list of its parts alone (docs/JSON.md). */
+typedef enum { EXPLAIN_LINES, EXPLAIN_OBJECT, EXPLAIN_LIST } explain_form;
+
+void explain_request(FILE *out, explain_form form, message m);
 
 /* The request is that which was answered; it may be empty. */
-void explain_response(FILE *out, message request, message m);
+void explain_response(FILE *out, explain_form form, message request, message m);
 
 /* What practice_ask wrote for the provider. */
-void explain_questions(FILE *out, message m);
+void explain_questions(FILE *out, explain_form form, message m);
+
+/* The first of these questions; empty where the bytes end inside it. */
+message explain_question(message m);
+
+/* The bytes of a request that are fields, whole or not. */
+message explain_payload(message m);
 
 #endif

@@ -45,8 +45,22 @@ void hex_write(char *text, const uint8_t *bytes, size_t length)
         sprintf(text + 2 * at, "%02X", bytes[at]);
 }
 
+static char digit_at(const uint8_t *bytes, size_t at)
+{
+    return "0123456789ABCDEF"[at % 2 ? bytes[at / 2] & 15 : bytes[at / 2] >> 4];
+}
+
+/* Digit by digit: with a printf for each byte, most of the time of a long play would go into this. */
 void hex_print(FILE *out, const uint8_t *bytes, size_t length)
 {
-    for (size_t at = 0; at < length; at++)
-        fprintf(out, "%02X", bytes[at]);
+    for (size_t at = 0; at < 2 * length; at++)
+        putc(digit_at(bytes, at), out);
+}
+
+int hex_is(const char *text, size_t text_len, const uint8_t *bytes, size_t length)
+{
+    size_t at = 0;
+    while (at < text_len && at < 2 * length && text[at] == digit_at(bytes, at))
+        at++;
+    return at == text_len && at == 2 * length;
 }

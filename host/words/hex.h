@@ -15,6 +15,9 @@ complaint hex_read(const char *text, uint8_t *bytes, size_t room, size_t *length
 void hex_write(char *text, const uint8_t *bytes, size_t length);
 void hex_print(FILE *out, const uint8_t *bytes, size_t length);
 
+/* Whether the text is nothing but the hex of these bytes. */
+int hex_is(const char *text, size_t text_len, const uint8_t *bytes, size_t length);
+
 /* Whether the text has hex digits and blanks alone, at least one digit. */
 int hex_looks(const char *text);
 

@@ -12,6 +12,14 @@
 void json_string(FILE *out, const char *text);
 void json_hex(FILE *out, const uint8_t *bytes, size_t length);
 
+/* A string, whatever it says, of lines that show. */
+void json_lines(FILE *out, const char *text, size_t length);
+
+/* A member that is not its object's first: a comma, the name, and the value as above. */
+void json_member(FILE *out, const char *name);
+void json_member_string(FILE *out, const char *name, const char *text);
+void json_member_hex(FILE *out, const char *name, const uint8_t *bytes, size_t length);
+
 /* A number, a flag's true or false, text where it shows, else hex. */
 void json_value(FILE *out, value_form form, const uint8_t *bytes, size_t length);
 

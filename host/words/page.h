@@ -1,4 +1,4 @@
-/* The page of a message taken apart: a line for each part with its first byte's place, or for what is wrong there. */
+/* The page of a message taken apart: a line, or an object, for each part with its first byte's place, or for what is wrong there. */
 #ifndef PAGE_H
 #define PAGE_H
 
@@ -6,15 +6,26 @@
 #include "fields.h"
 #include "values.h"
 
-void page_head(FILE *out, const char *what, size_t length);
+typedef struct {
+    FILE *out;
+    explain_form form;
+    message m;
+    int parts; /* how many stand on it */
+} page;
 
-/* A part that is no field; text is printed as it is. */
-void page_part(FILE *out, size_t at, const char *name, const char *format, ...) __attribute__((format(printf, 4, 5)));
-void page_value(FILE *out, size_t at, const char *name, value_form form, const uint8_t *bytes, size_t length);
+page page_start(FILE *out, explain_form form, const char *kind, message m);
+void page_end(const page *p);
 
-void page_wrong(FILE *out, size_t at, const char *format, ...) __attribute__((format(printf, 3, 4)));
+/* A part that is no field, so many bytes from this place on; text is printed as it is. */
+void page_part(page *p, size_t at, size_t length, const char *name, const char *format, ...) __attribute__((format(printf, 5, 6)));
+void page_value(page *p, size_t at, size_t length, const char *name, value_form form);
 
-/* The fields of these bytes, which start at this place of the message: of this request, or, where it is empty, of a response. */
-void page_fields(FILE *out, message m, size_t at, message request);
+/* A part that is not whole. No line is for it: what is wrong with it has one. As JSON every byte stands in a part. */
+void page_torn(page *p, size_t at, size_t length, const char *name);
+
+void page_wrong(page *p, size_t at, const char *format, ...) __attribute__((format(printf, 3, 4)));
+
+/* The fields of so many bytes from this place on: of this request, or, where it is empty, of a response. */
+void page_fields(page *p, size_t at, size_t length, message request);
 
 #endif
