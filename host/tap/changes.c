@@ -6,6 +6,7 @@
 #include "image.h"
 #include "json.h"
 #include "response.h"
+#include "saying.h"
 
 /* The lines of changes stand below the response's, under this mark. */
 #define MARK "card"
@@ -49,10 +50,22 @@ void changes_print(FILE *out, const uint8_t *before, const uint8_t *after)
     }
 }
 
+/* ---- as JSON ---- */
+
+typedef void (*put)(FILE *out, const image_value *value);
+
 /* Blocks are hex here, text or not, so that nobody has to guess. */
 static void put_json(FILE *out, const image_value *value)
 {
     json_value(out, value->form == VALUE_DATA ? VALUE_BYTES : value->form, value->bytes, value->length);
+}
+
+static void put_text(FILE *out, const image_value *value)
+{
+    size_t length;
+    value_put(saying_start(), value->form, value->bytes, value->length, 0);
+    const char *text = saying_end(&length);
+    json_lines(out, text, length);
 }
 
 static void put_name(FILE *out, int *first, const char *name)
@@ -63,7 +76,7 @@ static void put_name(FILE *out, int *first, const char *name)
     fputc(':', out);
 }
 
-void changes_json(FILE *out, const uint8_t *before, const uint8_t *after)
+static void put_changes(FILE *out, const uint8_t *before, const uint8_t *after, put one)
 {
     int first = 1;
     fputc('{', out);
@@ -73,13 +86,48 @@ void changes_json(FILE *out, const uint8_t *before, const uint8_t *after)
             continue;
         put_name(out, &first, is.name);
         fputc('[', out);
-        put_json(out, &was);
+        one(out, &was);
         fputc(',', out);
-        put_json(out, &is);
+        one(out, &is);
         fputc(']', out);
     }
     fputc('}', out);
 }
+
+void changes_json(FILE *out, const uint8_t *before, const uint8_t *after)
+{
+    put_changes(out, before, after, put_json);
+}
+
+void changes_texts(FILE *out, const uint8_t *before, const uint8_t *after)
+{
+    put_changes(out, before, after, put_text);
+}
+
+static void put_values(FILE *out, const uint8_t *image, put one)
+{
+    int first = 1;
+    fputc('{', out);
+    for (practice_view_name name = 0; name < PRACTICE_VIEW_VALUES; name++) {
+        image_value value = image_get(image, name);
+        put_name(out, &first, value.name);
+        one(out, &value);
+    }
+    fputc('}', out);
+}
+
+void values_json(FILE *out, const uint8_t *image)
+{
+    put_values(out, image, put_json);
+    fputc('\n', out);
+}
+
+void values_texts(FILE *out, const uint8_t *image)
+{
+    put_values(out, image, put_text);
+}
+
+/* ---- all values, as lines ---- */
 
 void values_print(FILE *out, const uint8_t *image)
 {
@@ -88,16 +136,4 @@ void values_print(FILE *out, const uint8_t *image)
         fprintf(out, "%-*s", NAME_WIDTH, value.name);
         value_print(out, value.form, value.bytes, value.length, NAME_WIDTH);
     }
-}
-
-void values_json(FILE *out, const uint8_t *image)
-{
-    int first = 1;
-    fputc('{', out);
-    for (practice_view_name name = 0; name < PRACTICE_VIEW_VALUES; name++) {
-        image_value value = image_get(image, name);
-        put_name(out, &first, value.name);
-        put_json(out, &value);
-    }
-    fputs("}\n", out);
 }

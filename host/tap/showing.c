@@ -2,6 +2,7 @@
 #include "showing.h"
 
 #include <stdio.h>
+#include <string.h>
 
 #include "changes.h"
 #include "hex.h"
@@ -36,49 +37,66 @@ void show_lines(const tap *t)
 {
     show_hex('>', t->sent.bytes, t->sent.length);
     if (t->got.response_len == 0)
-        puts("< 4\n   4     " NO_RESPONSE);
+        puts("< " SHOWING_NONE "\n   " SHOWING_NONE "     " NO_RESPONSE);
     else
         show_answer(t);
 }
 
 /* ---- JSON ---- */
 
-static void show_string(const char *name, const char *text)
-{
-    printf(",\"%s\":", name);
-    json_string(stdout, text);
-}
-
-static void show_bytes(const char *name, const uint8_t *bytes, size_t length)
-{
-    printf(",\"%s\":", name);
-    json_hex(stdout, bytes, length);
-}
-
-static void show_response(const tap *t)
+void show_status(const tap *t)
 {
     size_t end = t->got.response_len - STATUS_WORD;
+    if (t->got.response_len == 0) {
+        fputs(",\"word\":null,\"status\":null,\"meaning\":\"" NO_RESPONSE "\"", stdout);
+        return;
+    }
     words_status row = words_status_of((uint16_t)value_number(t->got.response + end, STATUS_WORD), t->sent.bytes, t->sent.length);
-    show_bytes("response", t->got.response, t->got.response_len);
     printf(",\"word\":\"%04X\"", row.word);
-    show_string("status", row.name);
-    show_string("meaning", row.meaning);
-    fputs(",\"fields\":", stdout);
-    json_fields(stdout, t->got.response, end);
-    fputs(",\"changed\":", stdout);
-    changes_json(stdout, t->before, t->got.next);
+    json_member_string(stdout, "status", row.name);
+    json_member_string(stdout, "meaning", row.meaning);
+}
+
+void show_response(const tap *t)
+{
+    if (t->got.response_len > 0)
+        json_member_hex(stdout, "response", t->got.response, t->got.response_len);
+    else
+        fputs(",\"response\":null", stdout);
 }
 
 void show_members(const tap *t)
 {
+    size_t length = t->got.response_len;
     fputs("\"command\":", stdout);
     json_string(stdout, words_command(t->sent.bytes, t->sent.length));
-    show_bytes("request", t->sent.bytes, t->sent.length);
-    if (t->got.response_len == 0)
-        fputs(",\"response\":null,\"word\":null,\"status\":null,\"meaning\":\"" NO_RESPONSE "\",\"fields\":[],\"changed\":{}", stdout);
-    else
-        show_response(t);
-    show_bytes("draw", t->draw, sizeof t->draw);
+    json_member_hex(stdout, "request", t->sent.bytes, t->sent.length);
+    show_response(t);
+    show_status(t);
+    json_member(stdout, "fields");
+    json_fields(stdout, t->got.response, length > 0 ? length - STATUS_WORD : 0);
+    json_member(stdout, "changed");
+    changes_json(stdout, t->before, t->got.next);
+    json_member_hex(stdout, "draw", t->draw, sizeof t->draw);
+}
+
+/* ---- JSON of a play ---- */
+
+void show_verdict(unsigned number, const char *verdict, const char *expected)
+{
+    printf("{\"tap\":%u,\"verdict\":\"%s\"", number, verdict);
+    json_member_string(stdout, "expected", strcmp(expected, SHOWING_NONE) == 0 ? NULL : expected);
+}
+
+void show_bad_line(unsigned line, const char *why)
+{
+    printf("{\"line\":%u", line);
+    json_member_string(stdout, "reason", why);
+}
+
+void show_counts(unsigned taps, unsigned others)
+{
+    printf("\"taps\":%u,\"same\":%u,\"other\":%u", taps, taps - others, others);
 }
 
 /* ---- either ---- */
@@ -116,7 +134,7 @@ static void show_check(uint8_t reason)
         return;
     }
     printf(",\"check\":{\"number\":%u", reason);
-    show_string("meaning", words_reason(reason));
+    json_member_string(stdout, "meaning", words_reason(reason));
     putchar('}');
 }
 

@@ -6,6 +6,9 @@
 #include "requests.h"
 #include "sending.h"
 
+/* What stands in the place of a response where there is none: the answers do not fit the questions. */
+#define SHOWING_NONE "4"
+
 /* A tap that was made: what was sent, and what came of it. */
 typedef struct {
     uint8_t before[PRACTICE_IMAGE_ROOM]; /* the card that was tapped; got.next is the one after */
@@ -25,6 +28,15 @@ void show_hex(char mark, const uint8_t *bytes, size_t length);
 
 /* The members of a tap's JSON object that a play has too, without the braces. */
 void show_members(const tap *t);
+
+/* Some of them alone, with a comma before each: the response, and what its status word says. */
+void show_response(const tap *t);
+void show_status(const tap *t);
+
+/* The objects of a play, without the last brace: a tap's first members, a bad line, how many taps there were (without the first). */
+void show_verdict(unsigned number, const char *verdict, const char *expected);
+void show_bad_line(unsigned line, const char *why);
+void show_counts(unsigned taps, unsigned others);
 
 /* Prints the tap as the settings want it. All but the first of several are set off by an empty line. In words, where the user waits for
  * the card, the sendings of the same bytes stand together: a line for each that had to wait, with the seconds left, and then the last. */

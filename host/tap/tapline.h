@@ -32,6 +32,10 @@ typedef struct {
 /* NULL where the line is that of a tap, else what is wrong with it. */
 complaint tapline_read(const recording_line *from, tapline *read);
 
+/* The line that stands in the place of a sheet where a play goes on from a card: image, a tab and the image in hex. NULL where it is one;
+ * its bytes may be no card. */
+complaint tapline_image(const recording_line *from, uint8_t image[PRACTICE_IMAGE_ROOM], size_t *length);
+
 /* What may be wrong with any line, whatever it should say: how it ends, what stands before it. NULL where nothing is. */
 complaint tapline_fault(const recording_line *from);
 
