@@ -11,6 +11,7 @@ from merelstof.practice import Practice
 EXAMPLE = pathlib.Path(__file__).resolve().parent.parent / "examples" / "secp256k1.sheet"
 START = [line.split("\t") for line in EXAMPLE.read_text().splitlines()] + [["pause", ""]]
 NAMES = [name for name, _ in START]
+LONGEST_VALUE = 64  # characters of a line's value: the hash of a code
 LONGEST = 4060  # bytes of a request: with its draw and a refusal they make a recording's longest line
 
 
@@ -19,15 +20,16 @@ def sheet_of(values: list) -> str:
     return "".join(f"{name}\t{value}\n" for name, value in zip(NAMES, values) if name != "pause" or value)
 
 
+def is_bad(at: int, value: str) -> bool:
+    """Whether the library calls this line bad where all others are good. A value with a line feed would be two lines."""
+    tried = [good for _, good in START]
+    tried[at] = value
+    return len(value) > LONGEST_VALUE or "\n" in value or library().personalise(sheet_of(tried).encode(errors="replace"))[0] != 0
+
+
 def bad_lines(values: list) -> list:
-    """Every line that the library calls bad where all others are good: the library itself names only the first."""
-    found = []
-    for at, value in enumerate(values):
-        tried = [good for _, good in START]
-        tried[at] = value
-        if "\n" in value or library().personalise(sheet_of(tried).encode())[0]:
-            found.append({"line": at + 1, "wanted": SHEET[at]})
-    return found
+    """Every bad line: the library itself names only the first."""
+    return [{"line": at + 1, "wanted": SHEET[at]} for at, value in enumerate(values) if is_bad(at, value)]
 
 
 class Remembering(Provider):

@@ -28,6 +28,7 @@ export class Try {
     // The card stands after tap `at` of the play; `image` is that card.
     Object.assign(this, { play: new Play(), text: "", at: 0, image: null, moved: null, aside: [], isSaved: true, busy: false });
     this.node = this.laidOut();
+    fill(this.board.middle, el("p", { class: "hint" }, "Make a card from the sheet, or open a recording. Then choose a command, and send it."));
     addEventListener("beforeunload", (event) => this.isSaved || event.preventDefault());
   }
 
@@ -39,6 +40,7 @@ export class Try {
     this.waits = button("wait-out", "Wait it out", () => this.waitOut());
     this.saves = button("save", "Save", () => this.save());
     this.opens = el("input", { id: "open", type: "file", change: () => this.doing(() => this.openFile()) });
+    this.saves.disabled = true;
     this.note = el("p", { id: "note", "aria-live": "polite" });
     this.left = el("div", { id: "aside" });
     const submit = (event) => { event.preventDefault(); this.doing(() => this.send()); };
@@ -114,7 +116,7 @@ export class Try {
     const tap = at ? this.play.taps[at - 1] : null;
     this.again.disabled = !tap;
     this.waits.disabled = tap?.word !== "9789";
-    this.saves.disabled = !this.text;
+    this.saves.disabled = false;
     fill(this.note, at < last ? `The card is as after tap ${at}. What is sent now goes on from there, and what came after it can be taken back.` : "");
     fill(this.left, this.aside.map((one, place) => el("button", { type: "button", click: () => this.doing(() => this.takeBack(place)) }, one.words)));
     Object.assign(this.node.dataset, { tap: at, taps: last });
