@@ -31,7 +31,8 @@ class Row(NamedTuple):
     value: str = ""
 
 
-CODE, DATA, COUNTER = Row(("own", "code", "hex")), Row(("text", "hex")), Row(("number", "hex"), 4, "0")
+CODE, COUNTER = Row(("own", "code", "hex")), Row(("number", "hex"), 4, "0")
+DATA = Row(("text", "hex"), 0, "oil topped up at 1204")
 ROWS = {
     0x10: CODE,
     0x01: Row(("own", "hex")),

@@ -69,7 +69,7 @@ def said(what, status: int = 200) -> web.Response:
 async def given(request: web.Request) -> dict:
     try:
         what = await request.json()
-    except ValueError:
+    except (ValueError, RecursionError):  # the second where brackets stand in brackets without end
         raise Bad("this is no JSON") from None
     if not isinstance(what, dict):
         raise Bad("an object is wanted")
@@ -142,7 +142,7 @@ async def post_request(request: web.Request) -> web.Response:
     card = card_of(what)
     try:
         made, wrong = forms.compose(card, int(what["ins"], 16), what["fields"])
-    except (KeyError, TypeError, ValueError, AttributeError):
+    except (KeyError, TypeError, ValueError, AttributeError, OverflowError):
         raise Bad("this is no form of a command") from None
     return said({"wrong": wrong} if wrong else {"request": made.hex().upper(), "sent": await teller.explained(made)})
 

@@ -30,13 +30,13 @@ function checks(words, tap) {
 
 // ---- the wait ----
 
-// The seconds left of those at the first sending of these bytes; null where this tap is no part of a wait.
+// The seconds left of those at the first sending of these bytes; null where this tap is no part of a wait. Without a response the seconds
+// stay as they were.
 function waitOf(taps, at) {
-  const same = (place) => place >= 0 && taps[place].word === "9789" && taps[place].request === taps[at].request;
-  const goesOn = (place) => same(place) && (!same(place + 1) || taps[place].numbers.seconds > taps[place + 1].numbers.seconds);
+  const isHeld = (place) => place >= 0 && taps[place].numbers.seconds > 0 && taps[place].request === taps[at].request;
   let first = at;
-  while (goesOn(first - 1)) first -= 1;
-  if (!same(first)) return null;
+  while (isHeld(first - 1) && taps[first - 1].numbers.seconds >= taps[first].numbers.seconds) first -= 1;
+  if (!isHeld(first)) return null;
   return { left: taps[at].numbers.seconds, of: taps[first].numbers.seconds };
 }
 

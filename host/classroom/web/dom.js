@@ -21,7 +21,7 @@ export function fill(node, ...inside) {
 }
 
 // A name of the paper may be broken behind its underscores.
-export const broken = (name) => name.split(/(?<=_)/).flatMap((part) => [part, el("wbr")]);
+export const broken = (name) => (name.match(/[^_]+_*|_+/g) ?? []).flatMap((part) => [part, el("wbr")]);
 
 // The runs of a lesson's page: words, code, strong words.
 export const prose = (runs) => runs.map(([kind, words]) => (kind ? el(kind, {}, words) : words));

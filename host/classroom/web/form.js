@@ -24,34 +24,39 @@ export class Form {
       this.fields, this.hexRow, this.wrong, this.preview);
   }
 
-  // The forms for a card. What was typed into the form that is shown stays, unless the card is a fresh one.
-  async of(image, isFresh) {
+  // The forms for a card.
+  async of(image) {
     this.image = image;
-    const kept = isFresh ? null : this.rows?.map((row) => row.given());
     this.forms = await ask("forms", { image });
     const chosen = this.commands.value;
     fill(this.commands, this.forms.map((form) => el("option", { value: form.ins, selected: form.ins === chosen }, `${form.command} ${form.ins}`)));
-    await this.choose(kept);
+    await this.choose();
   }
 
-  choose(kept = null) {
+  // The same card after another tap: what was typed stays.
+  async now(image) {
+    this.image = image;
+    await this.make();
+  }
+
+  choose() {
     const form = this.forms.find((one) => one.ins === this.commands.value);
-    this.rows = form.fields.map((field, at) => this.row(field, `field-${at}`, kept?.[at]));
-    this.rows.push(this.extra(`field-${form.fields.length}`, kept?.at(-1)));
+    this.rows = form.fields.map((field, at) => this.row(field, `field-${at}`));
+    this.rows.push(this.extra(`field-${form.fields.length}`));
     fill(this.fields, this.rows.map((row) => row.node));
     return this.make();
   }
 
   // ---- fields ----
 
-  row(field, id, kept) {
+  row(field, id) {
     const times = el("select", { "aria-label": `${field.name}: how often`, input: () => this.soon() },
-      TIMES.map((words, at) => el("option", { value: at, selected: at === Number(kept?.times ?? field.times) }, words)));
+      TIMES.map((words, at) => el("option", { value: at, selected: at === field.times }, words)));
     const way = el("select", { "aria-label": `${field.name}: given as`, input: () => { show(); this.soon(); } },
-      field.ways.map(([name, words]) => el("option", { value: name, selected: name === kept?.way }, words)));
+      field.ways.map(([name, words]) => el("option", { value: name }, words)));
     const wide = field.ways[0][0] === "texts";
     const value = el(wide ? "textarea" : "input", { id, rows: wide ? 5 : null, spellcheck: "false", autocomplete: "off", input: () => this.soon() });
-    value.value = kept?.value ?? field.value;
+    value.value = field.value;
     const wrong = el("span", { class: "bad" });
     const show = () => (value.hidden = GIVEN.has(way.value));
     show();
@@ -61,10 +66,10 @@ export class Form {
   }
 
   // A field that the command need not know.
-  extra(id, kept) {
+  extra(id) {
     const tag = el("input", { id: "extra-tag", size: 2, maxlength: 2, "aria-label": "tag of another field", input: () => this.soon() });
-    tag.value = kept?.tag ?? "7F";
-    const row = this.row({ tag: "", name: "another field", times: 0, ways: [["hex", "hex"]], value: "00" }, id, kept);
+    tag.value = "7F";
+    const row = this.row({ tag: "", name: "another field", times: 0, ways: [["hex", "hex"]], value: "00" }, id);
     row.node.querySelector("label").after(tag);
     return { ...row, given: () => ({ ...row.given(), tag: tag.value }) };
   }

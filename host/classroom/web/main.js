@@ -26,7 +26,7 @@ class Page {
   // ---- the list ----
 
   list() {
-    const open = el("input", { id: "open-lesson", type: "file", change: () => this.openFile(open.files[0]) });
+    const open = el("input", { id: "open-lesson", type: "file", change: () => this.openFile(open) });
     const entry = ({ name, title, question }) =>
       el("li", {}, el("a", { href: `#lesson/${encodeURIComponent(name)}`, "data-lesson": name },
         el("span", { class: "question" }, question || title), el("span", { class: "title" }, title)));
@@ -58,14 +58,18 @@ class Page {
     this.play.page.title ||= title;
     this.lesson = new Lesson(this.play, this.words.checks, (tap) => history.replaceState(null, "", `#lesson/${encodeURIComponent(name)}/${tap}`));
     fill(view, this.lesson.node);
+    if (!name) history.pushState(null, "", "#lesson/");
   }
 
-  async openFile(file) {
+  async openFile(input) {
+    const [file] = input.files;
     if (!file) return;
     trouble("");
     try {
       if (file.size > this.words.longest) throw new Error(`it has more than ${this.words.longest} bytes, and no recording has`);
-      await this.open("", file.name, "recording", await file.arrayBuffer(), 0);
+      const recording = await file.arrayBuffer();
+      input.value = ""; // so that the same file can be chosen again
+      await this.open("", file.name, "recording", recording, 0);
     } catch (why) {
       trouble(`${file.name}: ${why.message}`);
     }

@@ -80,28 +80,34 @@ export class Try {
     this.text = sheet;
     this.play = new Play();
     this.play.take({ card });
-    await this.stand(0, image, true);
+    await this.stand(0, image);
   }
 
-  // The history is another now, and the card stands after this tap.
-  async stand(at, image, isFresh = false) {
+  // The history is another now, and the card stands after this tap; it may be another card.
+  async stand(at, image, isOther = true) {
     this.sending.hidden = false;
     this.list();
     this.show(at);
     this.image = image;
-    await this.form.of(image, isFresh);
+    await (isOther ? this.form.of(image) : this.form.now(image));
   }
 
-  // The card goes to where it stood after this tap, which is found by playing so far again. Of several moves the last counts.
+  // The card goes to where it stood after this tap. Of several moves the last counts.
   async move(at) {
     this.show(at);
-    let last = null;
     try {
-      await told("recording", this.recording(at), (one) => (last = one));
-      if (this.at === at) await this.form.of((this.image = last.image));
+      const image = await this.imageAt(at);
+      if (this.at === at) await this.form.now((this.image = image));
     } catch (why) {
       this.trouble(why.message);
     }
+  }
+
+  // The card after this tap is found by playing so far again.
+  async imageAt(at) {
+    let last = null;
+    await told("recording", this.recording(at), (one) => (last = one));
+    return last.image;
   }
 
   list() {
@@ -138,13 +144,15 @@ export class Try {
     while (this.play.taps[this.at - 1].word === "9789") await this.sendAgain();
   }
 
+  // The tap follows the one at which it was sent, whatever the user looks at meanwhile.
   async tap(request) {
-    if (this.at >= MOST_TAPS) throw new Error(`a recording has at most ${MOST_TAPS} taps: save it, and make a fresh card`);
-    const answer = await ask("tap", { image: this.image, request });
-    if (this.at < this.play.taps.length) this.setAside(this.at);
-    this.play.taps.push({ ...answer.tap, tap: this.at + 1 });
+    const { at, image } = this;
+    if (at >= MOST_TAPS) throw new Error(`a recording has at most ${MOST_TAPS} taps: save it, and make a fresh card`);
+    const answer = await ask("tap", { image, request });
+    this.setAside(at);
+    this.play.taps.push({ ...answer.tap, tap: at + 1 });
     this.isSaved = false;
-    await this.stand(this.at + 1, answer.image);
+    await this.stand(at + 1, answer.image, false);
   }
 
   // ---- what was left behind ----
@@ -165,8 +173,8 @@ export class Try {
     this.setAside(0);
     Object.assign(this, { play: one.play, text: one.text });
     this.sheet.put(this.text);
-    this.list();
-    await this.move(this.play.taps.length);
+    const at = this.play.taps.length;
+    await this.stand(at, await this.imageAt(at));
   }
 
   // ---- recordings ----
