@@ -158,8 +158,12 @@ def request_of(what: dict) -> bytes:
 
 
 async def post_apart(request: web.Request) -> web.Response:
-    """A request in hex, taken apart."""
-    made = request_of(await given(request))
+    """A request in hex, taken apart; or what is wrong with it, which is no fault of the page while somebody types."""
+    what = await given(request)
+    try:
+        made = request_of(what)
+    except Bad as why:
+        return said({"wrong": {"all": str(why)}})
     return said({"request": made.hex().upper(), "sent": await teller.explained(made)})
 
 

@@ -32,6 +32,9 @@ def open_page(address: str):
 
 
 async def serve(port: int, opens: bool):
+    ended = asyncio.Event()
+    for number in (signal.SIGINT, signal.SIGTERM, signal.SIGHUP):
+        asyncio.get_running_loop().add_signal_handler(number, ended.set)
     key = secrets.token_urlsafe(16)
     runner = web.AppRunner(served(key), access_log=None)
     await runner.setup()
@@ -45,9 +48,6 @@ async def serve(port: int, opens: bool):
     print("classroom: open this address in a browser; Ctrl-C ends it", file=sys.stderr)
     if opens:
         open_page(address)
-    ended = asyncio.Event()
-    for number in (signal.SIGINT, signal.SIGTERM, signal.SIGHUP):
-        asyncio.get_running_loop().add_signal_handler(number, ended.set)
     await ended.wait()
     await runner.cleanup()
 

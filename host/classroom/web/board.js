@@ -5,13 +5,15 @@ import { message, outcome, questions, verdict } from "./parts.js";
 import { plots } from "./plots.js";
 
 const BEHIND_WAIT = 10; // the card makes its holder wait when this check is passed
+const BEHIND_QUESTIONS = 12; // and asks its questions when this one is; the last is an answer's
 const FIRST_LIVING = "Status"; // of the card's values: those before it come from the sheet
 const SIGNS = { passed: "✓", failed: "✗", later: "·" };
 
 // ---- the checks ----
 
 function stateOf(tap, number) {
-  if (tap === null || tap.word === null) return "later";
+  if (tap === null) return "later";
+  if (tap.word === null) return number <= BEHIND_QUESTIONS && tap.asked.some((one) => one.parts.length) ? "passed" : "later";
   if (tap.word === "9789") return number <= BEHIND_WAIT ? "passed" : "later";
   if (tap.check === 0 || number < tap.check) return "passed";
   return number === tap.check ? "failed" : "later";

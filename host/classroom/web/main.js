@@ -98,7 +98,7 @@ class Page {
 
 try {
   const page = new Page(await ask("words"));
-  addEventListener("hashchange", () => page.route());
+  addEventListener("hashchange", () => page.route().catch((why) => trouble(why.message)));
   addEventListener("keydown", (event) => page.key(event));
   await page.route();
 } catch (why) {

@@ -161,7 +161,7 @@ export class Try {
     const { play, text } = this;
     const taps = play.taps.length;
     if (taps === at) return;
-    const words = at ? `the history with tap ${at + 1} to ${taps}` : `the card with ${taps} tap${taps === 1 ? "" : "s"}`;
+    const words = at === 0 ? `the card with ${taps} tap${taps === 1 ? "" : "s"}` : at + 1 === taps ? `tap ${taps}` : `taps ${at + 1} to ${taps}`;
     this.aside.push({ play, text, words: `Take back ${words}` });
     this.play = new Play();
     this.play.take({ card: play.card });
