@@ -137,8 +137,11 @@ def issuer_bytes(card: View, tag: int, values: dict) -> bytes:
     return keys.issuer(card.cid).hash_and_sign(card.cid + values.get(0x32, b"") + counter)
 
 
-def value_of(card: View, tag: int, way: str, text: str, values: dict) -> bytes:
-    """`values` are the form's other ones, as far as they are known."""
+def value_of(card: View, tag: int, field: dict, values: dict) -> bytes:
+    """By the way in which it is given; bytes in hex can be any field's. `values` are the form's other ones, as far as they are known."""
+    way, text = field["way"], field["value"]
+    if way != "hex" and way not in ROWS[tag].ways:
+        raise KeyError(way)
     made = {
         "own": lambda: own_bytes(card, tag),
         "code": lambda: sha256(text),
@@ -155,14 +158,21 @@ def value_of(card: View, tag: int, way: str, text: str, values: dict) -> bytes:
 # ---- requests ----
 
 
-def checked(field: dict) -> tuple:
-    """Tag, times, way and text of a field as the page sends it: a tag that is none, and a way that its row has not, are refused."""
+def tag_of(field: dict) -> int:
+    """Any tag can be sent, also one that no command knows."""
     tag = hex_bytes(field["tag"])
     if len(tag) != 1:
         raise Wrong("a tag is one byte: two hex digits")
-    if field["way"] not in (*(ROWS[tag[0]].ways if tag[0] in ROWS else ()), "hex"):
-        raise Wrong("no such way to give this field")
-    return tag[0], min(max(int(field["times"]), 0), 2), field["way"], field["value"]
+    return tag[0]
+
+
+def pairs_of(card: View, field: dict, values: dict) -> list:
+    """Tag and value, as often as they stand in the form: of a field that is left out nothing is looked at."""
+    times = min(max(int(field["times"]), 0), 2)
+    if times == 0:
+        return []
+    tag = tag_of(field)
+    return [(tag, value_of(card, tag, field, values))] * times
 
 
 def compose(card: View, ins: int, fields: list) -> tuple:
@@ -170,8 +180,7 @@ def compose(card: View, ins: int, fields: list) -> tuple:
     made, known, wrong = {}, {}, {}
     for at in sorted(range(len(fields)), key=lambda at: fields[at]["way"] == "issuer"):  # what the issuer signs has to be known
         try:
-            tag, times, way, text = checked(fields[at])
-            made[at] = [(tag, value_of(card, tag, way, text, known))] * times if times else []
+            made[at] = pairs_of(card, fields[at], known)
             known.update(made[at])
         except Wrong as why:
             wrong[at] = str(why)

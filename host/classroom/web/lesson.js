@@ -26,7 +26,7 @@ export class Lesson {
     this.buttons = { first: button("first", "|◀", "First (Home)"), back: button("back", "◀", "Back (left arrow)"),
       forward: button("forward", "▶", "Forward (right arrow)"), last: button("last", "▶|", "Last (End)") };
     const { first, back, forward, last } = this.buttons;
-    this.asks = el("input", { type: "checkbox", id: "ask-first", change: () => this.show() });
+    this.asks = el("input", { type: "checkbox", id: "ask-first" });
     return el("article", { id: "lesson" },
       el("header", { class: "bar" },
         el("div", { class: "titles" }, el("h2", {}, this.page.title), el("p", { class: "question" }, this.page.question)),
