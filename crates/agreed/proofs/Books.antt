@@ -13,7 +13,7 @@ use Rattle.notes.specs.declared.Order.{Order}
 use Rattle.notes.specs.declared.Order.TheVariants.{Before, Same, After}
 use Rattle.notes.specs.Notes.{blank, order_of, good_of, is_before, follows}
 use Rattle.shelf.specs.Shelf.{bad_from, first_bad, is_book}
-use Rattle.agreed.specs.Agreed.{In, here, there, Below, Rising, A_Book}
+use Rattle.agreed.specs.Agreed.{In, here, there, Below, Rising, ABook}
 use Rattle.agreed.proofs.Order.{before_trans, before_same, before_self, before_both, blank_below}
 
 -- NOTES OF A LIST
@@ -84,20 +84,20 @@ pub bad_first : (l : List Note) → first_bad l ≡ 0 → is_book l ≡ true
 unfolding is_book
 bad_first l e = eq-eqb (first_bad l) 0 e
 
-pub is_a_book : (l : List Note) → is_book l ≡ true → A_Book l
+pub is_a_book : (l : List Note) → is_book l ≡ true → ABook l
 unfolding first_bad
 is_a_book l e =
     let r = none_bad 256 1 blank l (omega arith) (first_bad_lem l e) in
     record { few = r.few; good = r.good; rising = r.rising }
 
-pub book_is : (l : List Note) → A_Book l → is_book l ≡ true
+pub book_is : (l : List Note) → ABook l → is_book l ≡ true
 unfolding first_bad
 book_is l b =
     bad_first l
     (bad_none 256 1 blank l
     (record { few = b.few; good = b.good; above = λ x i. blank_below x (b.good x i); rising = b.rising }))
 
-pub a_book : (l : List Note) → is_book l ≡ true ↔ A_Book l
+pub a_book : (l : List Note) → is_book l ≡ true ↔ ABook l
 a_book l = (is_a_book l, book_is l)
 
 -- THE SAME NOTES: the first of one is the first of the other

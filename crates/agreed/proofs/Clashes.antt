@@ -10,7 +10,7 @@ use Rattle.notes.specs.Notes.{order_of, alike_of}
 use Rattle.notes.proofs.Laws.{alike_note, note_alike}
 use Rattle.union.specs.declared.Match.TheVariants.{Agree, Differ}
 use Rattle.union.specs.Union.{Pair, First, Second, Both, note_in, clashes, lowest}
-use Rattle.agreed.specs.Agreed.{In, here, there, Below, Rising, Clashing, Lowest, No_Clash}
+use Rattle.agreed.specs.Agreed.{In, here, there, Below, Rising, Clashing, Lowest, NoClash}
 use Rattle.agreed.proofs.Order.{same_means, before_same, before_self, before_both, after_back}
 use Rattle.agreed.proofs.Books.{none_in}
 use Rattle.agreed.proofs.Sides.{Sided, ended, only_second, only_first, before, same, after, agree_head, agree_both}
@@ -52,7 +52,7 @@ not_heads x y xs ys a b d p q c = go c.first c.second
     go (there i) (there j) = made i j
 
 -- WHERE THE PAIRS AGREE nothing clashes
-pub agree_none : (f s : List Note) (ps : List Pair) → Sided f s ps → Rising f → Rising s → lowest ps ≡ Agree → No_Clash f s
+pub agree_none : (f s : List Note) (ps : List Pair) → Sided f s ps → Rising f → Rising s → lowest ps ≡ Agree → NoClash f s
 agree_none f s ps ended p q e a b c = none_in a c.first
 agree_none f s ps (only_second r) p q e a b c = none_in a c.first
 agree_none f s ps (only_first r) p q e a b c = none_in b c.second

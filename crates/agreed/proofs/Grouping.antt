@@ -10,7 +10,7 @@ use Rattle.notes.specs.declared.Note.{Note}
 use Rattle.shelf.specs.declared.Outcome.TheVariants.{Done}
 use Rattle.shelf.specs.Shelf.{is_book}
 use Rattle.union.specs.Union.{merged, join_of}
-use Rattle.agreed.specs.Agreed.{In, A_Book, Agreed, Joins, one, join, all, Agreeing, Of, itself, left, right}
+use Rattle.agreed.specs.Agreed.{In, ABook, Agreed, Joins, one, join, all, Agreeing, Of, itself, left, right}
 use Rattle.agreed.proofs.Books.{is_a_book, same_members, part_length, one_note}
 use Rattle.agreed.proofs.Members.{merged_only, merged_rises}
 use Rattle.agreed.proofs.Means.{done_means, done_where}
@@ -62,7 +62,7 @@ any_grouping p q a b h k f g =
 
 -- NO GROUPING REFUSES where one of them does not: of the same books, or of some of them
 module _ (p : ℕ) (room : 256 ≤ p) (a : Joins) (h : Agreeing p a) where
-  whole : A_Book (all a)
+  whole : ABook (all a)
   whole = is_a_book (all a) (all_book p a h)
 
   within : (b : Joins) → Agreeing p b → ((l : List Note) → Of l b → Of l a) → (x : Note) → In x (all b) → In x (all a)

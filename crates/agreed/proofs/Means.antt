@@ -12,24 +12,24 @@ use Rattle.shelf.specs.Shelf.{first_bad, is_book}
 use Rattle.union.specs.declared.Match.{Match}
 use Rattle.union.specs.declared.Match.TheVariants.{Agree, Differ}
 use Rattle.union.specs.Union.{aside, merged, lowest, join_of}
-use Rattle.agreed.specs.Agreed.{Clashing, Lowest, Books, No_Clash, Bad_Record}
+use Rattle.agreed.specs.Agreed.{Clashing, Lowest, Books, NoClash, BadRecord}
 use Rattle.agreed.proofs.Books.{first_bad_lem, bad_first, is_a_book}
 use Rattle.agreed.proofs.Sides.{sided}
 use Rattle.agreed.proofs.Clashes.{agree_none, differ_lowest}
-use Rattle.agreed.proofs.Outcomes.{no_room, bad_one, bad_two, clash, full, done, Join_Way, way_joins, join_way}
+use Rattle.agreed.proofs.Outcomes.{no_room, bad_one, bad_two, clash, full, done, JoinWay, way_joins, join_way}
 
 module _ (places : ℕ) (f s : List Note) where
   books : 256 ≤ places → first_bad f ≡ 0 → first_bad s ≡ 0 → Books places f s
   books h i j = record { room = h; first = bad_first f i; second = bad_first s j }
 
-  agrees : Books places f s → lowest (aside f s) ≡ Agree → No_Clash f s
+  agrees : Books places f s → lowest (aside f s) ≡ Agree → NoClash f s
   agrees b e = agree_none f s (aside f s) (sided f s) (is_a_book f b.first).rising (is_a_book s b.second).rising e
 
   differs : (t n : ℕ) → Books places f s → lowest (aside f s) ≡ Differ t n → Lowest f s t n
   differs t n b e = differ_lowest f s (aside f s) t n (sided f s) (is_a_book f b.first).rising (is_a_book s b.second).rising e
 
   -- where nothing clashes, the pairs agree
-  then_agrees : Books places f s → No_Clash f s → lowest (aside f s) ≡ Agree
+  then_agrees : Books places f s → NoClash f s → lowest (aside f s) ≡ Agree
   then_agrees b c = go (lowest (aside f s)) refl
     where
       go : (m : Match) → lowest (aside f s) ≡ m → lowest (aside f s) ≡ Agree
@@ -40,17 +40,17 @@ module _ (places : ℕ) (f s : List Note) where
   pub done_agrees : (n : ℕ) → join_of places f s ≡ Done n → lowest (aside f s) ≡ Agree
   done_agrees n e = go n (join_way places f s (Done n) e)
     where
-      go : (n : ℕ) → Join_Way places f s (Done n) → lowest (aside f s) ≡ Agree
+      go : (n : ℕ) → JoinWay places f s (Done n) → lowest (aside f s) ≡ Agree
       go n (done h i j k l) = k
 
   -- DONE: two books with no clash and at most 256 notes, which are counted; and no other has this outcome
-  pub done_means : (n : ℕ) → join_of places f s ≡ Done n → Books places f s × No_Clash f s × (length (merged f s) ≤ 256) × (n ≡ length (merged f s))
+  pub done_means : (n : ℕ) → join_of places f s ≡ Done n → Books places f s × NoClash f s × (length (merged f s) ≤ 256) × (n ≡ length (merged f s))
   done_means n e = go n (join_way places f s (Done n) e)
     where
-      go : (n : ℕ) → Join_Way places f s (Done n) → Books places f s × No_Clash f s × (length (merged f s) ≤ 256) × (n ≡ length (merged f s))
+      go : (n : ℕ) → JoinWay places f s (Done n) → Books places f s × NoClash f s × (length (merged f s) ≤ 256) × (n ≡ length (merged f s))
       go n (done h i j k l) = (books h i j, agrees (books h i j) k, l, refl)
 
-  pub done_where : Books places f s → No_Clash f s → length (merged f s) ≤ 256 → join_of places f s ≡ Done (length (merged f s))
+  pub done_where : Books places f s → NoClash f s → length (merged f s) ≤ 256 → join_of places f s ≡ Done (length (merged f s))
   done_where b c h =
       way_joins places f s (Done (length (merged f s))) (done b.room (first_bad_lem f b.first) (first_bad_lem s b.second) (then_agrees b c) h)
 
@@ -58,28 +58,28 @@ module _ (places : ℕ) (f s : List Note) where
   pub no_room_means : join_of places f s ≡ NoRoom ↔ places < 256
   no_room_means = (λ e. go (join_way places f s NoRoom e), λ h. way_joins places f s NoRoom (no_room h))
     where
-      go : Join_Way places f s NoRoom → places < 256
+      go : JoinWay places f s NoRoom → places < 256
       go (no_room h) = h
 
   -- A BAD LINE: of the first book, its first bad record; of the second, where the first is a book
-  pub bad_means : (b k : ℕ) → join_of places f s ≡ BadLine b k → Bad_Record f s b k
+  pub bad_means : (b k : ℕ) → join_of places f s ≡ BadLine b k → BadRecord f s b k
   bad_means b k e = go b k (join_way places f s (BadLine b k) e)
     where
-      go : (b k : ℕ) → Join_Way places f s (BadLine b k) → Bad_Record f s b k
+      go : (b k : ℕ) → JoinWay places f s (BadLine b k) → BadRecord f s b k
       go b k (bad_one h i) = inl (refl, refl, λ z. omega arith)
       go b k (bad_two h i j) = inr (refl, bad_first f i, refl, λ z. omega arith)
 
   pub bad_first_means : (k : ℕ) → join_of places f s ≡ BadLine 1 k → (first_bad f ≡ k) × (k ≡ 0 → ⊥)
   bad_first_means k e = go (bad_means 1 k e)
     where
-      go : Bad_Record f s 1 k → (first_bad f ≡ k) × (k ≡ 0 → ⊥)
+      go : BadRecord f s 1 k → (first_bad f ≡ k) × (k ≡ 0 → ⊥)
       go (inl p) = (p.1, p.2)
       go (inr p) = let z = p.0 in absurd (omega arith)
 
   pub bad_second_means : (k : ℕ) → join_of places f s ≡ BadLine 2 k → (is_book f ≡ true) × (first_bad s ≡ k) × (k ≡ 0 → ⊥)
   bad_second_means k e = go (bad_means 2 k e)
     where
-      go : Bad_Record f s 2 k → (is_book f ≡ true) × (first_bad s ≡ k) × (k ≡ 0 → ⊥)
+      go : BadRecord f s 2 k → (is_book f ≡ true) × (first_bad s ≡ k) × (k ≡ 0 → ⊥)
       go (inl p) = let z = p.0 in absurd (omega arith)
       go (inr p) = (p.1, p.2, p.3)
 
@@ -87,7 +87,7 @@ module _ (places : ℕ) (f s : List Note) where
   pub lowest_clash : (t n : ℕ) → join_of places f s ≡ Clash t n → Books places f s × Lowest f s t n
   lowest_clash t n e = go t n (join_way places f s (Clash t n) e)
     where
-      go : (t n : ℕ) → Join_Way places f s (Clash t n) → Books places f s × Lowest f s t n
+      go : (t n : ℕ) → JoinWay places f s (Clash t n) → Books places f s × Lowest f s t n
       go t n (clash h i j k) = (books h i j, differs t n (books h i j) k)
 
   pub clash_refused : (x y : Note) → Books places f s → Clashing f s x y → (t n : ℕ) × (join_of places f s ≡ Clash t n)
@@ -98,11 +98,11 @@ module _ (places : ℕ) (f s : List Note) where
       go (Differ t n) e = (t, n, way_joins places f s (Clash t n) (clash b.room (first_bad_lem f b.first) (first_bad_lem s b.second) e))
 
   -- FULL: two books with no clash, and more than 256 notes; and no other has this outcome
-  pub full_means : join_of places f s ≡ Full → Books places f s × No_Clash f s × (256 < length (merged f s))
+  pub full_means : join_of places f s ≡ Full → Books places f s × NoClash f s × (256 < length (merged f s))
   full_means e = go (join_way places f s Full e)
     where
-      go : Join_Way places f s Full → Books places f s × No_Clash f s × (256 < length (merged f s))
+      go : JoinWay places f s Full → Books places f s × NoClash f s × (256 < length (merged f s))
       go (full h i j k l) = (books h i j, agrees (books h i j) k, l)
 
-  pub full_where : Books places f s → No_Clash f s → 256 < length (merged f s) → join_of places f s ≡ Full
+  pub full_where : Books places f s → NoClash f s → 256 < length (merged f s) → join_of places f s ≡ Full
   full_where b c h = way_joins places f s Full (full b.room (first_bad_lem f b.first) (first_bad_lem s b.second) (then_agrees b c) h)

@@ -66,15 +66,15 @@ some_way p a b m t = by_room (dec_lt p 256)
     by_room (no h) = by_first (omega (arith, h)) (dec_lt 0 a)
 
 module _ (places : ℕ) (f s : List Note) where
-  abbrev pub Join_Way : Outcome → Type 0
-  Join_Way o = Way places (first_bad f) (first_bad s) (lowest (aside f s)) (length (merged f s)) o
+  abbrev pub JoinWay : Outcome → Type 0
+  JoinWay o = Way places (first_bad f) (first_bad s) (lowest (aside f s)) (length (merged f s)) o
 
-  pub way_joins : (o : Outcome) → Join_Way o → join_of places f s ≡ o
+  pub way_joins : (o : Outcome) → JoinWay o → join_of places f s ≡ o
   unfolding join_of
   way_joins o w = way_is places (first_bad f) (first_bad s) (lowest (aside f s)) (length (merged f s)) o w
 
-  pub join_way : (o : Outcome) → join_of places f s ≡ o → Join_Way o
+  pub join_way : (o : Outcome) → join_of places f s ≡ o → JoinWay o
   unfolding join_of
   join_way o e =
       let z = some_way places (first_bad f) (first_bad s) (lowest (aside f s)) (length (merged f s)) in
-      subst Join_Way (sym (way_is places (first_bad f) (first_bad s) (lowest (aside f s)) (length (merged f s)) z.0 z.1) ∙ e) z.1
+      subst JoinWay (sym (way_is places (first_bad f) (first_bad s) (lowest (aside f s)) (length (merged f s)) z.0 z.1) ∙ e) z.1

@@ -13,7 +13,7 @@ use Rattle.shelf.specs.Shelf.{first_bad, is_book}
 use Rattle.union.specs.declared.Match.{Match}
 use Rattle.union.specs.declared.Match.TheVariants.{Agree}
 use Rattle.union.specs.Union.{Pair, Both, seconds, aside, note_in, notes_in, merged, clashes, lowest, decided, join_of}
-use Rattle.agreed.specs.Agreed.{A_Book, Agreed}
+use Rattle.agreed.specs.Agreed.{ABook, Agreed}
 use Rattle.agreed.proofs.Order.{same_self}
 use Rattle.agreed.proofs.Books.{none_in, first_bad_lem, is_a_book, book_is}
 use Rattle.agreed.proofs.Sides.{Sided, ended, same, one_way, merged_length, lowest_turns, merged_turns}
@@ -35,7 +35,7 @@ pub either_notes : (places : ℕ) (f s : List Note) (n : ℕ) → join_of places
 either_notes places f s n e = merged_turns f s (done_agrees places f s n e)
 
 -- EACH NOTE OF BOTH ONCE
-merged_book : (f s : List Note) → A_Book f → A_Book s → length (merged f s) ≤ 256 → A_Book (merged f s)
+merged_book : (f s : List Note) → ABook f → ABook s → length (merged f s) ≤ 256 → ABook (merged f s)
 merged_book f s a b h =
     record {
       few = h;

@@ -28,7 +28,7 @@ Rising [] = Unit {0}
 Rising (x ∷ l) = Below x l × Rising l
 
 -- A BOOK: at most 256 notes, each good, strictly rising
-pub record A_Book (l : List Note) : Type 0 where
+pub record ABook (l : List Note) : Type 0 where
   pub few : length l ≤ 256
   pub good : (x : Note) → In x l → good_of x ≡ true
   pub rising : Rising l
@@ -63,12 +63,12 @@ pub record Books (places : ℕ) (f s : List Note) : Type 0 where
   pub first : is_book f ≡ true
   pub second : is_book s ≡ true
 
-abbrev pub No_Clash : List Note → List Note → Type 0
-No_Clash f s = (x y : Note) → Clashing f s x y → ⊥
+abbrev pub NoClash : List Note → List Note → Type 0
+NoClash f s = (x y : Note) → Clashing f s x y → ⊥
 
 -- A BAD LINE k of the book b: the first bad record of the first book, or of the second where the first is a book
-abbrev pub Bad_Record : List Note → List Note → ℕ → ℕ → Type 0
-Bad_Record f s b k = ((b ≡ 1) × (first_bad f ≡ k) × (k ≡ 0 → ⊥)) ⊎ ((b ≡ 2) × (is_book f ≡ true) × (first_bad s ≡ k) × (k ≡ 0 → ⊥))
+abbrev pub BadRecord : List Note → List Note → ℕ → ℕ → Type 0
+BadRecord f s b k = ((b ≡ 1) × (first_bad f ≡ k) × (k ≡ 0 → ⊥)) ⊎ ((b ≡ 2) × (is_book f ≡ true) × (first_bad s ≡ k) × (k ≡ 0 → ⊥))
 
 -- ANY GROUPING: books joined two by two, in any order
 pub data Joins : Type 0 where

@@ -1,13 +1,13 @@
 -- NO TWO OUTCOMES MEET A PROMISE of answers: a theorem about each public function's own contract. Assumes nothing.
 use mathlib.Core.Path.{refl, sym, ◌∙◌}
 use mathlib.Core.List.{[]}
-use Rattle.wire.specs.One_Outcome.{One_Outcome, plain}
+use Rattle.wire.specs.OneOutcome.{OneOutcome, plain}
 use Rattle.wire.proofs.Unique.{one_equal}
 use Rattle.answers.specs.contracts.shape as shape
 use Rattle.answers.specs.contracts.confirmation as confirmation
 
-pub shape_one : One_Outcome shape.ended (λ M. shape.clauses {M = M})
+pub shape_one : OneOutcome shape.ended (λ M. shape.clauses {M = M})
 shape_one M 𝓤 𝓛 m r κs a g z z' ws ws' = plain 𝓤 (λ p q. (p [] ∙ sym (q []), refl))
 
-pub confirmation_one : One_Outcome confirmation.ended (λ M. confirmation.clauses {M = M})
+pub confirmation_one : OneOutcome confirmation.ended (λ M. confirmation.clauses {M = M})
 confirmation_one M 𝓤 𝓛 m r κs a g z z' ws ws' = plain 𝓤 (λ p q. one_equal p q)

@@ -22,7 +22,7 @@ use Rattle.shelf.proofs.Books.{least_of, book_taken, bad_taken, shelf_count, she
 use Rattle.union.specs.declared.Match.{Match}
 use Rattle.union.specs.declared.Match.TheVariants.{Agree, Differ}
 use Rattle.union.specs.Union.{aside, merged, lowest, fitting_of, matched_of, decided, join_of, join_answer}
-use Rattle.booktext.specs.BookText.{Meaning, Book, Bad_At, meaning, answer_from, read_answer, roomy_of, notes_of, read_outcome, read_of, text_of, written_as, write_of}
+use Rattle.booktext.specs.BookText.{Meaning, Book, BadAt, meaning, answer_from, read_answer, roomy_of, notes_of, read_outcome, read_of, text_of, written_as, write_of}
 use Rattle.booktext.proofs.Laws.{Within, meaning_within}
 use Rattle.book.specs.Book.{laid_of, joined_into, read_into, written_into}
 
@@ -107,7 +107,7 @@ module _ (p : List Note) where
   in-room : (m : Meaning) → Within 256 m → 256 ≤ length p → Read p m (answer_from (replicate 256 blank) 0 m) (read_outcome m)
   unfolding answer_from read_outcome notes_of answer_of count_of after_of shelf_of
   in-room (Book l) h g = record { outcome = ap Done (shelf_count l); list = rw (shelf_count l) (lay-all p l h g) }
-  in-room (Bad_At k) h g = record { outcome = refl; list = lay-none p _ }
+  in-room (BadAt k) h g = record { outcome = refl; list = lay-none p _ }
 
   read_by : (m : Meaning) → Within 256 m → (t : Bool) → ltb (length p) 256 ≡ t
       → Read p m (cond t (answer_of NoRoom (answer_from (replicate 256 blank) 0 m).notes) (answer_from (replicate 256 blank) 0 m)) (cond t NoRoom (read_outcome m))

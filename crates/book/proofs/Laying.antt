@@ -45,22 +45,22 @@ use Rattle.book.proofs.lay.Symbol.{name as #book·lay}
 module _ {M : Type 1} {𝓤 : Ura M} (𝓛 : Logic 𝓤) (mem : Memory → SProp 𝓤) (run : Routine → Fun 𝓤) where
   open 𝓛 use {H, A}
 
-  abbrev pub Notes_In : Contract 𝓤
-  Notes_In = triple_of 𝓛 notes_in.signature (notes_in.spec 𝓛 mem run)
+  abbrev pub NotesIn : Contract 𝓤
+  NotesIn = triple_of 𝓛 notes_in.signature (notes_in.spec 𝓛 mem run)
 
-  abbrev pub Count_In : Contract 𝓤
-  Count_In = triple_of 𝓛 count_in.signature (count_in.spec 𝓛 mem run)
+  abbrev pub CountIn : Contract 𝓤
+  CountIn = triple_of 𝓛 count_in.signature (count_in.spec 𝓛 mem run)
 
-  abbrev pub Outcome_In : Contract 𝓤
-  Outcome_In = triple_of 𝓛 outcome_in.signature (outcome_in.spec 𝓛 mem run)
+  abbrev pub OutcomeIn : Contract 𝓤
+  OutcomeIn = triple_of 𝓛 outcome_in.signature (outcome_in.spec 𝓛 mem run)
 
   abbrev pub Lay : Contract 𝓤
   Lay = triple_of 𝓛 lay.signature (lay.spec 𝓛 mem run)
 
   pub record Laying (𝓣 : Tables 𝓤 H) : Type 1 where
-    pub notes_in : Triple 𝓤 (𝓣.C #shelf·notes_in) Notes_In
-    pub count_in : Triple 𝓤 (𝓣.C #shelf·count_in) Count_In
-    pub outcome_in : Triple 𝓤 (𝓣.C #shelf·outcome_in) Outcome_In
+    pub notes_in : Triple 𝓤 (𝓣.C #shelf·notes_in) NotesIn
+    pub count_in : Triple 𝓤 (𝓣.C #shelf·count_in) CountIn
+    pub outcome_in : Triple 𝓤 (𝓣.C #shelf·outcome_in) OutcomeIn
     pub lay : Triple 𝓤 (𝓣.C #book·lay) Lay
 
   -- what `lay` is passed, and that the caller has what it asks

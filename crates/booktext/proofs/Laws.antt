@@ -19,7 +19,7 @@ use Rattle.shelf.specs.declared.Outcome.TheVariants.{Done, BadLine, NoRoom}
 use Rattle.shelf.specs.Shelf.{bad_from, first_bad, bad_of, filled}
 use Rattle.shelf.specs.Outcome.{answer_of, after_of}
 use Rattle.noteline.specs.NoteLine.{line_parts, line_of, note_at}
-use Rattle.booktext.specs.BookText.{Meaning, Book, Bad_At, also, notes_from, meaning, book_parts, text_of, answer_from, read_answer, written_as}
+use Rattle.booktext.specs.BookText.{Meaning, Book, BadAt, also, notes_from, meaning, book_parts, text_of, answer_from, read_answer, written_as}
 
 -- READ. What the first line of a text does, where there is one
 module _ (k : ℕ) (y : Note) where
@@ -28,13 +28,13 @@ module _ (k : ℕ) (y : Note) where
   none_left zero = refl
   none_left (suc n) = refl
 
-  pub no_room : (l : List ℕ) → 0 < length l → notes_from zero k y l ≡ Bad_At k
+  pub no_room : (l : List ℕ) → 0 < length l → notes_from zero k y l ≡ BadAt k
   unfolding notes_from
   no_room [] h = absurd (omega arith)
   no_room (b ∷ s) h = refl
 
   pub first_line_lem : (n : ℕ) (l : List ℕ) → 0 < length l
-      → notes_from (suc n) k y l ≡ cond (follows y (note_at l)) (also (note_at l) (notes_from n (k + 1) (note_at l) (tail_after 10 l))) (Bad_At k)
+      → notes_from (suc n) k y l ≡ cond (follows y (note_at l)) (also (note_at l) (notes_from n (k + 1) (note_at l) (tail_after 10 l))) (BadAt k)
   unfolding notes_from
   first_line_lem n [] h = absurd (omega arith)
   first_line_lem n (b ∷ s) h = refl
@@ -43,7 +43,7 @@ module _ (k : ℕ) (y : Note) where
 also_put : (d : List Note) (k : ℕ) (x : Note) (m : Meaning) → answer_from d k (also x m) ≡ answer_from (set d k x) (k + 1) m
 unfolding answer_from also filled
 also_put d k x (Book l) = refl
-also_put d k x (Bad_At j) = refl
+also_put d k x (BadAt j) = refl
 
 module _ (s : List ℕ) (at : ℕ) where
   some_left : at < length s → 0 < length (drop at s)
@@ -97,12 +97,12 @@ module _ (s : List ℕ) (d : List Note) (k : ℕ) (y : Note) (at : ℕ) where
 -- WHAT A TEXT MEANS has no more notes than there is room for, or its bad line is counted from 1
 abbrev pub Within : ℕ → Meaning → Type 0
 Within n (Book l) = length l ≤ n
-Within n (Bad_At k) = 1 ≤ k
+Within n (BadAt k) = 1 ≤ k
 
 also_within : (n : ℕ) (x : Note) (m : Meaning) → Within n m → Within (suc n) (also x m)
 unfolding also
 also_within n x (Book l) h = omega arith
-also_within n x (Bad_At k) h = h
+also_within n x (BadAt k) h = h
 
 from_within : (n k : ℕ) (y : Note) (s : List ℕ) → 1 ≤ k → Within n (notes_from n k y s)
 unfolding notes_from
@@ -117,7 +117,7 @@ from_within (suc n) k y (b ∷ s) h = go (follows y x) (from_within n (k + 1) x 
     rest : Meaning
     rest = notes_from n (k + 1) x (tail_after 10 (b ∷ s))
 
-    go : (t : Bool) → Within n rest → Within (suc n) (cond t (also x rest) (Bad_At k))
+    go : (t : Bool) → Within n rest → Within (suc n) (cond t (also x rest) (BadAt k))
     go true w = also_within n x rest w
     go false w = h
 

@@ -14,20 +14,20 @@ use Rattle.noteline.specs.NoteLine.{line_parts, note_at}
 -- THE MEANING of a text: a list of notes, or its first bad line
 pub data Meaning : Type 0 where
   Book : List Note → Meaning
-  Bad_At : ℕ → Meaning
+  BadAt : ℕ → Meaning
 
 -- a note in front of what the lines after it mean
 unfoldable pub also : Note → Meaning → Meaning
 also x (Book l) = Book (x ∷ l)
-also x (Bad_At k) = Bad_At k
+also x (BadAt k) = BadAt k
 
 -- the lines of a text, where y is the note before them, room for n notes is left, and the first is line k: it is bad where it is no good note, does not rise
 -- above the one before it, or there is no room for it ("line 257 is one")
 unfoldable pub notes_from : ℕ → ℕ → Note → List ℕ → Meaning
 notes_from zero k y [] = Book []
-notes_from zero k y (b ∷ s) = Bad_At k
+notes_from zero k y (b ∷ s) = BadAt k
 notes_from (suc n) k y [] = Book []
-notes_from (suc n) k y (b ∷ s) = let x = note_at (b ∷ s) in cond (follows y x) (also x (notes_from n (k + 1) x (tail_after 10 (b ∷ s)))) (Bad_At k)
+notes_from (suc n) k y (b ∷ s) = let x = note_at (b ∷ s) in cond (follows y x) (also x (notes_from n (k + 1) x (tail_after 10 (b ∷ s)))) (BadAt k)
 
 -- lines are counted from 1; a blank, which is below every good note, stands before the first
 unfoldable pub meaning : List ℕ → Meaning
@@ -44,7 +44,7 @@ text_of l = joined (book_parts l)
 -- READ: the outcome without a look at the room, with the notes in an array; and with it
 unfoldable pub answer_from : List Note → ℕ → Meaning → Answer
 answer_from d k (Book l) = answer_of (Done (filled d k l).count) (filled d k l).notes
-answer_from d k (Bad_At j) = answer_of (BadLine 1 j) (replicate most blank)
+answer_from d k (BadAt j) = answer_of (BadLine 1 j) (replicate most blank)
 
 unfoldable pub read_answer : List ℕ → Answer
 read_answer s = answer_from (replicate most blank) 0 (meaning s)
@@ -54,11 +54,11 @@ roomy_of r places = cond (ltb places most) (answer_of NoRoom r.notes) r
 
 unfoldable pub notes_of : Meaning → List Note
 notes_of (Book l) = l
-notes_of (Bad_At k) = []
+notes_of (BadAt k) = []
 
 unfoldable pub read_outcome : Meaning → Outcome
 read_outcome (Book l) = Done (length l)
-read_outcome (Bad_At k) = BadLine 1 k
+read_outcome (BadAt k) = BadLine 1 k
 
 -- "a list for notes with fewer than 256 places", then the bad line
 unfoldable pub read_of : ℕ → List ℕ → Outcome

@@ -1,5 +1,5 @@
 -- NO TWO OUTCOMES MEET A PROMISE of card: a theorem about each public function's own contract. Assumes nothing.
-use Rattle.wire.specs.One_Outcome.{One_Outcome, plain}
+use Rattle.wire.specs.OneOutcome.{OneOutcome, plain}
 use Rattle.wire.proofs.Unique.{one_equal}
 use Rattle.card.specs.contracts.Flags.activate as flags_activate
 use Rattle.card.specs.contracts.Wallet.create as wallet_create
@@ -14,38 +14,38 @@ use Rattle.card.specs.contracts.Wait.counted as wait_counted
 use Rattle.card.specs.contracts.Wait.holding as wait_holding
 use Rattle.card.specs.contracts.Card.fresh as card_fresh
 
-pub flags_activate_one : One_Outcome flags_activate.ended (λ M. flags_activate.clauses {M = M})
+pub flags_activate_one : OneOutcome flags_activate.ended (λ M. flags_activate.clauses {M = M})
 flags_activate_one M 𝓤 𝓛 m r κs a g z z' ws ws' = plain 𝓤 (λ p q. one_equal p q)
 
-pub wallet_create_one : One_Outcome wallet_create.ended (λ M. wallet_create.clauses {M = M})
+pub wallet_create_one : OneOutcome wallet_create.ended (λ M. wallet_create.clauses {M = M})
 wallet_create_one M 𝓤 𝓛 m r κs a g z z' ws ws' = plain 𝓤 (λ p q. one_equal p q)
 
-pub wallet_sign_one : One_Outcome wallet_sign.ended (λ M. wallet_sign.clauses {M = M})
+pub wallet_sign_one : OneOutcome wallet_sign.ended (λ M. wallet_sign.clauses {M = M})
 wallet_sign_one M 𝓤 𝓛 m r κs a g z z' ws ws' = plain 𝓤 (λ p q. one_equal p q)
 
-pub wallet_purge_one : One_Outcome wallet_purge.ended (λ M. wallet_purge.clauses {M = M})
+pub wallet_purge_one : OneOutcome wallet_purge.ended (λ M. wallet_purge.clauses {M = M})
 wallet_purge_one M 𝓤 𝓛 m r κs a g z z' ws ws' = plain 𝓤 (λ p q. one_equal p q)
 
-pub counters_signed_one : One_Outcome counters_signed.ended (λ M. counters_signed.clauses {M = M})
+pub counters_signed_one : OneOutcome counters_signed.ended (λ M. counters_signed.clauses {M = M})
 counters_signed_one M 𝓤 𝓛 m r κs a g z z' ws ws' = plain 𝓤 (λ p q. one_equal p q)
 
-pub counters_checked_one : One_Outcome counters_checked.ended (λ M. counters_checked.clauses {M = M})
+pub counters_checked_one : OneOutcome counters_checked.ended (λ M. counters_checked.clauses {M = M})
 counters_checked_one M 𝓤 𝓛 m r κs a g z z' ws ws' = plain 𝓤 (λ p q. one_equal p q)
 
-pub counters_validated_one : One_Outcome counters_validated.ended (λ M. counters_validated.clauses {M = M})
+pub counters_validated_one : OneOutcome counters_validated.ended (λ M. counters_validated.clauses {M = M})
 counters_validated_one M 𝓤 𝓛 m r κs a g z z' ws ws' = plain 𝓤 (λ p q. one_equal p q)
 
-pub wait_none_one : One_Outcome wait_none.ended (λ M. wait_none.clauses {M = M})
+pub wait_none_one : OneOutcome wait_none.ended (λ M. wait_none.clauses {M = M})
 wait_none_one M 𝓤 𝓛 m r κs a g z z' ws ws' = plain 𝓤 (λ p q. one_equal p q)
 
-pub wait_dropped_one : One_Outcome wait_dropped.ended (λ M. wait_dropped.clauses {M = M})
+pub wait_dropped_one : OneOutcome wait_dropped.ended (λ M. wait_dropped.clauses {M = M})
 wait_dropped_one M 𝓤 𝓛 m r κs a g z z' ws ws' = plain 𝓤 (λ p q. one_equal p q)
 
-pub wait_counted_one : One_Outcome wait_counted.ended (λ M. wait_counted.clauses {M = M})
+pub wait_counted_one : OneOutcome wait_counted.ended (λ M. wait_counted.clauses {M = M})
 wait_counted_one M 𝓤 𝓛 m r κs a g z z' ws ws' = plain 𝓤 (λ p q. one_equal p q)
 
-pub wait_holding_one : One_Outcome wait_holding.ended (λ M. wait_holding.clauses {M = M})
+pub wait_holding_one : OneOutcome wait_holding.ended (λ M. wait_holding.clauses {M = M})
 wait_holding_one M 𝓤 𝓛 m r κs a g z z' ws ws' = plain 𝓤 (λ p q. one_equal p q)
 
-pub card_fresh_one : One_Outcome card_fresh.ended (λ M. card_fresh.clauses {M = M})
+pub card_fresh_one : OneOutcome card_fresh.ended (λ M. card_fresh.clauses {M = M})
 card_fresh_one M 𝓤 𝓛 m r κs a g z z' ws ws' = plain 𝓤 (λ p q. one_equal p q)

@@ -33,19 +33,19 @@ use Rattle.card.specs.Image.{enc_front, enc_held, enc_face, encode}
 use Rattle.card.specs.Image.{dec_codes, dec_fixed, dec_flags, dec_wallet, dec_key, dec_counters, dec_block, dec_issuer, dec_wait, dec_pending, dec_last}
 use Rattle.card.specs.Image.{dec_front, dec_held, dec_face, decode}
 use Rattle.card.specs.Valid.{ok_face, is_card}
-use Rattle.card.specs.Shape.{Shape_Codes, Shape_Fixed, Shape_Issuer, Shape_Front, Shape_Held, Shape_Face, Shape}
+use Rattle.card.specs.Shape.{ShapeCodes, ShapeFixed, ShapeIssuer, ShapeFront, ShapeHeld, ShapeFace, Shape}
 use Rattle.cards.proofs.Shape.{length_encode}
 
 -- READING BACK: where a group's bytes stand at its place, the group is what is read there, and what follows stands at the next place
 module _ (l : List ℕ) where
-  codes : (x : Codes) (s : Shape_Codes x) (rest : List ℕ) → drop codes_at l ≡ enc_codes x ++ rest → (dec_codes l ≡ x) × (drop fixed_at l ≡ rest)
+  codes : (x : Codes) (s : ShapeCodes x) (rest : List ℕ) → drop codes_at l ≡ enc_codes x ++ rest → (dec_codes l ≡ x) × (drop fixed_at l ≡ rest)
   unfolding enc_codes
   codes x s rest e =
       let p1 = peel l codes_at pin_size x.pin1 _ (simp append_assoc at e) s.pin1 (lit< tt) in
       let p2 = peel l (codes_at + pin_size) pin_size x.pin2 _ p1.1 s.pin2 (lit< tt) in
       (λ i. record { pin1 = p1.0 i; pin2 = p2.0 i }, p2.1)
 
-  fixed : (x : Fixed) (s : Shape_Fixed x) (rest : List ℕ) → drop fixed_at l ≡ enc_fixed x ++ rest → (dec_fixed l ≡ x) × (drop flags_at l ≡ rest)
+  fixed : (x : Fixed) (s : ShapeFixed x) (rest : List ℕ) → drop fixed_at l ≡ enc_fixed x ++ rest → (dec_fixed l ≡ x) × (drop flags_at l ≡ rest)
   unfolding enc_fixed
   fixed x s rest e =
       let p1 = peel l fixed_at cid_size x.cid _ (simp append_assoc at e) s.cid (lit< tt) in
@@ -114,7 +114,7 @@ module _ (l : List ℕ) where
       let z : at + block_width ≡ at + 2 + data_room = omega arith in
       (λ i. record { size = p1.0 i; bytes = p2.0 i }, ap (λ n. drop n l) z ∙ p2.1)
 
-  issuer : (x : Issuer) → Shape_Issuer x → (rest : List ℕ) → drop issuer_at l ≡ enc_issuer x ++ rest → (dec_issuer l ≡ x) × (drop pending_at l ≡ rest)
+  issuer : (x : Issuer) → ShapeIssuer x → (rest : List ℕ) → drop issuer_at l ≡ enc_issuer x ++ rest → (dec_issuer l ≡ x) × (drop pending_at l ≡ rest)
   unfolding enc_issuer
   issuer x s rest e =
       let p1 = block issuer_at x.block s.block _ (simp append_assoc at e) in
@@ -146,7 +146,7 @@ module _ (l : List ℕ) where
       let p2 = peel l (last_at + 1) last_room x.signatures _ p1.1 s (lit< tt) in
       λ i. record { count = p1.0 i; signatures = p2.0 i }
 
-  front : (x : Front) → Shape_Front x → (rest : List ℕ) → drop fixed_at l ≡ enc_front x ++ rest → (dec_front l ≡ x) × (drop user_at l ≡ rest)
+  front : (x : Front) → ShapeFront x → (rest : List ℕ) → drop fixed_at l ≡ enc_front x ++ rest → (dec_front l ≡ x) × (drop user_at l ≡ rest)
   unfolding enc_front
   front x s rest e =
       let p1 = fixed x.fixed s.fixed _ (simp append_assoc at e) in
@@ -156,7 +156,7 @@ module _ (l : List ℕ) where
       let p5 = counters x.counters _ p4.1 in
       (λ i. record { fixed = p1.0 i; flags = p2.0 i; wallet = p3.0 i; key = p4.0 i; counters = p5.0 i }, p5.1)
 
-  held : (x : Held) → Shape_Held x → (rest : List ℕ) → drop user_at l ≡ enc_held x ++ rest → (dec_held l ≡ x) × (drop pending_at l ≡ rest)
+  held : (x : Held) → ShapeHeld x → (rest : List ℕ) → drop user_at l ≡ enc_held x ++ rest → (dec_held l ≡ x) × (drop pending_at l ≡ rest)
   unfolding enc_held
   held x s rest e =
       let p1 = block user_at x.user s.user _ (simp append_assoc at e) in
@@ -164,7 +164,7 @@ module _ (l : List ℕ) where
       let p3 = issuer x.issuer s.issuer _ p2.1 in
       (λ i. record { user = p1.0 i; protected = p2.0 i; issuer = p3.0 i }, p3.1)
 
-  face : (x : Face) → Shape_Face x → (rest : List ℕ) → drop fixed_at l ≡ enc_face x ++ rest → dec_face l ≡ x
+  face : (x : Face) → ShapeFace x → (rest : List ℕ) → drop fixed_at l ≡ enc_face x ++ rest → dec_face l ≡ x
   unfolding enc_face
   face x s rest e =
       let p1 = front x.front s.front _ (simp append_assoc at e) in

@@ -29,13 +29,13 @@ use Rattle.card.specs.Values.{held_key, held_block, held_issuer, held_request, h
 use Rattle.card.specs.Values.{with_pause, with_flags, with_wallet, with_key, with_counters, with_user, with_protected, with_issuer, with_pending, with_last}
 use Rattle.card.specs.Image.{enc_codes, enc_fixed, enc_flags, enc_wallet, enc_key, enc_counters, enc_block, enc_issuer, enc_wait, enc_pending, enc_last}
 use Rattle.card.specs.Image.{enc_front, enc_held, enc_face, encode}
-use Rattle.card.specs.Shape.{Shape_Codes, Shape_Fixed, Shape_Issuer, Shape_Front, Shape_Held, Shape_Face, Shape}
+use Rattle.card.specs.Shape.{ShapeCodes, ShapeFixed, ShapeIssuer, ShapeFront, ShapeHeld, ShapeFace, Shape}
 
-pub long_codes : (x : Codes) → Shape_Codes x → length (enc_codes x) ≡ codes_width
+pub long_codes : (x : Codes) → ShapeCodes x → length (enc_codes x) ≡ codes_width
 unfolding enc_codes
 long_codes x s = simp length-append (omega arith)
 
-pub long_fixed : (x : Fixed) → Shape_Fixed x → length (enc_fixed x) ≡ fixed_width
+pub long_fixed : (x : Fixed) → ShapeFixed x → length (enc_fixed x) ≡ fixed_width
 unfolding enc_fixed
 long_fixed x s = simp length-append (omega arith)
 
@@ -59,7 +59,7 @@ pub long_block : (x : Block) → length x.bytes ≡ data_room → length (enc_bl
 unfolding enc_block
 long_block x s = simp length-append (omega arith)
 
-pub long_issuer : (x : Issuer) → Shape_Issuer x → length (enc_issuer x) ≡ issuer_width
+pub long_issuer : (x : Issuer) → ShapeIssuer x → length (enc_issuer x) ≡ issuer_width
 unfolding enc_issuer
 long_issuer x s = simp length-append (omega (arith, long_block x.block s.block, s.signature))
 
@@ -75,18 +75,18 @@ pub long_last : (x : Last) → length x.signatures ≡ last_room → length (enc
 unfolding enc_last
 long_last x s = simp length-append (omega arith)
 
-long_front : (x : Front) → Shape_Front x → length (enc_front x) ≡ user_at - fixed_at
+long_front : (x : Front) → ShapeFront x → length (enc_front x) ≡ user_at - fixed_at
 unfolding enc_front
 long_front x s =
     simp length-append
     (omega (arith, long_fixed x.fixed s.fixed, long_flags x.flags, long_wallet x.wallet, long_key x.key s.key, long_counters x.counters))
 
-long_held : (x : Held) → Shape_Held x → length (enc_held x) ≡ pending_at - user_at
+long_held : (x : Held) → ShapeHeld x → length (enc_held x) ≡ pending_at - user_at
 unfolding enc_held
 long_held x s =
     simp length-append (omega (arith, long_block x.user s.user, long_block x.protected s.protected, long_issuer x.issuer s.issuer))
 
-long_face : (x : Face) → Shape_Face x → length (enc_face x) ≡ image_size - fixed_at
+long_face : (x : Face) → ShapeFace x → length (enc_face x) ≡ image_size - fixed_at
 unfolding enc_face
 long_face x s =
     simp length-append
@@ -97,7 +97,7 @@ unfolding encode
 length_encode c s = simp length-append (omega (arith, long_codes c.codes s.codes, long_face c.face s.face))
 
 -- WHAT IS HELD has its lengths, whatever was given
-pub held_codes_long : (a b : List ℕ) → Shape_Codes (record { pin1 = pad pin_size a; pin2 = pad pin_size b })
+pub held_codes_long : (a b : List ℕ) → ShapeCodes (record { pin1 = pad pin_size a; pin2 = pad pin_size b })
 held_codes_long a b = record { pin1 = length_pad pin_size a; pin2 = length_pad pin_size b }
 
 pub held_key_long : (k : List ℕ) → length (held_key k).bytes ≡ key_room
@@ -106,7 +106,7 @@ held_key_long k = length_pad key_room k
 pub held_block_long : (d : List ℕ) → length (held_block d).bytes ≡ data_room
 held_block_long d = length_pad data_room d
 
-pub held_issuer_long : (d s : List ℕ) (n : ℕ) → Shape_Issuer (held_issuer d s n)
+pub held_issuer_long : (d s : List ℕ) (n : ℕ) → ShapeIssuer (held_issuer d s n)
 held_issuer_long d s n = record { block = length_pad data_room d; signature = length_pad signature_size s }
 
 pub held_request_long : (w : Wait) (q : List ℕ) → length (held_request w q).request ≡ held_room
@@ -139,8 +139,8 @@ pub held_last_wide : (s : List ℕ) → length (enc_last (held_last s)) ≡ last
 held_last_wide s = long_last (held_last s) (held_last_long s)
 
 -- A FACE with one group anew
-module _ (f : Face) (s : Shape_Face f) where
-  pub shape_with_pause : (n : ℕ) → Shape_Face (with_pause n f)
+module _ (f : Face) (s : ShapeFace f) where
+  pub shape_with_pause : (n : ℕ) → ShapeFace (with_pause n f)
   shape_with_pause n =
       let x = s.front.fixed in
       record {
@@ -150,38 +150,38 @@ module _ (f : Face) (s : Shape_Face f) where
         last = s.last;
       }
 
-  pub shape_with_flags : (x : Flags) → Shape_Face (with_flags x f)
+  pub shape_with_flags : (x : Flags) → ShapeFace (with_flags x f)
   shape_with_flags x = record { front = record { fixed = s.front.fixed; key = s.front.key }; held = s.held; pending = s.pending; last = s.last }
 
-  pub shape_with_wallet : (x : Wallet) → Shape_Face (with_wallet x f)
+  pub shape_with_wallet : (x : Wallet) → ShapeFace (with_wallet x f)
   shape_with_wallet x = record { front = record { fixed = s.front.fixed; key = s.front.key }; held = s.held; pending = s.pending; last = s.last }
 
-  pub shape_with_key : (x : Key) → length x.bytes ≡ key_room → Shape_Face (with_key x f)
+  pub shape_with_key : (x : Key) → length x.bytes ≡ key_room → ShapeFace (with_key x f)
   shape_with_key x e = record { front = record { fixed = s.front.fixed; key = e }; held = s.held; pending = s.pending; last = s.last }
 
-  pub shape_with_counters : (x : Counters) → Shape_Face (with_counters x f)
+  pub shape_with_counters : (x : Counters) → ShapeFace (with_counters x f)
   shape_with_counters x = record { front = record { fixed = s.front.fixed; key = s.front.key }; held = s.held; pending = s.pending; last = s.last }
 
-  pub shape_with_user : (x : Block) → length x.bytes ≡ data_room → Shape_Face (with_user x f)
+  pub shape_with_user : (x : Block) → length x.bytes ≡ data_room → ShapeFace (with_user x f)
   shape_with_user x e =
       record { front = s.front; held = record { user = e; protected = s.held.protected; issuer = s.held.issuer }; pending = s.pending; last = s.last }
 
-  pub shape_with_protected : (x : Block) → length x.bytes ≡ data_room → Shape_Face (with_protected x f)
+  pub shape_with_protected : (x : Block) → length x.bytes ≡ data_room → ShapeFace (with_protected x f)
   shape_with_protected x e =
       record { front = s.front; held = record { user = s.held.user; protected = e; issuer = s.held.issuer }; pending = s.pending; last = s.last }
 
-  pub shape_with_issuer : (x : Issuer) → Shape_Issuer x → Shape_Face (with_issuer x f)
+  pub shape_with_issuer : (x : Issuer) → ShapeIssuer x → ShapeFace (with_issuer x f)
   shape_with_issuer x e =
       record { front = s.front; held = record { user = s.held.user; protected = s.held.protected; issuer = e }; pending = s.pending; last = s.last }
 
-  pub shape_with_pending : (x : Pending) → length x.request ≡ held_room → Shape_Face (with_pending x f)
+  pub shape_with_pending : (x : Pending) → length x.request ≡ held_room → ShapeFace (with_pending x f)
   shape_with_pending x e = record { front = s.front; held = s.held; pending = e; last = s.last }
 
-  pub shape_with_last : (x : Last) → length x.signatures ≡ last_room → Shape_Face (with_last x f)
+  pub shape_with_last : (x : Last) → length x.signatures ≡ last_room → ShapeFace (with_last x f)
   shape_with_last x e = record { front = s.front; held = s.held; pending = s.pending; last = e }
 
 -- A FRESH CARD
-pub shape_fresh : (x : Fixed) (g : Flags) (k : Codes) → Shape_Fixed x → Shape_Codes k → Shape (fresh x g k)
+pub shape_fresh : (x : Fixed) (g : Flags) (k : Codes) → ShapeFixed x → ShapeCodes k → Shape (fresh x g k)
 unfolding fresh
 shape_fresh x g k fixed codes =
     record {

@@ -1,11 +1,11 @@
 -- NO TWO OUTCOMES MEET A PROMISE of changes: a theorem about each public function's own contract. Assumes nothing.
-use Rattle.wire.specs.One_Outcome.{One_Outcome, plain}
+use Rattle.wire.specs.OneOutcome.{OneOutcome, plain}
 use Rattle.wire.proofs.Unique.{one_write}
 use Rattle.changes.specs.contracts.keep as keep
 use Rattle.changes.specs.contracts.change as change
 
-pub keep_one : One_Outcome keep.ended (λ M. keep.clauses {M = M})
+pub keep_one : OneOutcome keep.ended (λ M. keep.clauses {M = M})
 keep_one M 𝓤 𝓛 m r κs a g z z' ws ws' = plain 𝓤 (λ p q. let e = one_write p q in (e.1, λ i. (tt, (e.0 i, tt))))
 
-pub change_one : One_Outcome change.ended (λ M. change.clauses {M = M})
+pub change_one : OneOutcome change.ended (λ M. change.clauses {M = M})
 change_one M 𝓤 𝓛 m r κs a g z z' ws ws' = plain 𝓤 (λ p q. let e = one_write p q in (e.1, λ i. (tt, (tt, (tt, (tt, (tt, (e.0 i, tt))))))))

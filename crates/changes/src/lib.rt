@@ -7,7 +7,7 @@ ghost use Rattle.card.specs.declared.Face.{Face};
 ghost use Rattle.card.specs.Image.{decode};
 ghost use Rattle.card.specs.Values.{risen, held_last, faced, with_user, with_protected, with_counters, with_last, checked_once, validated_once};
 ghost use Rattle.writing.specs.Holds.{Turned};
-ghost use Rattle.manual.specs.Tags.{User_Data, User_Protected_Data};
+ghost use Rattle.manual.specs.Tags.{UserData, UserProtectedData};
 ghost use Rattle.manual.specs.Wallet.{sign, created_face, purged_face, new_codes};
 ghost use Rattle.manual.specs.Storage.{stored_block, stored_number, stored_counters, stored_face, kept_counter, issuer_face};
 ghost use Rattle.manual.specs.Activation.{activated_face, activated_codes};
@@ -158,7 +158,7 @@ fn purged(img: &[u8], next: &mut [u8])
 // What is there is stored.
 fn stored_user(p: &[u8], places: &Places, next: &mut [u8])
     ensures { (c : Card) → Turned c
-        (faced (with_user (stored_block User_Data (view_by p.now places.now) c.face.held.user) c.face) c)
+        (faced (with_user (stored_block UserData (view_by p.now places.now) c.face.held.user) c.face) c)
         next.old next.new }
 {
     if sent::has(p, places, tag::USER_DATA) {
@@ -168,7 +168,7 @@ fn stored_user(p: &[u8], places: &Places, next: &mut [u8])
 
 fn stored_protected(p: &[u8], places: &Places, next: &mut [u8])
     ensures { (c : Card) → Turned c
-        (faced (with_protected (stored_block User_Protected_Data (view_by p.now places.now) c.face.held.protected) c.face) c)
+        (faced (with_protected (stored_block UserProtectedData (view_by p.now places.now) c.face.held.protected) c.face) c)
         next.old next.new }
 {
     if sent::has(p, places, tag::USER_PROTECTED_DATA) {

@@ -12,7 +12,7 @@ use Rattle.fields.specs.Fields.{View, has, val, found, value_of}
 use Rattle.card.specs.declared.Face.{Face}
 use Rattle.card.specs.Layout.{top32}
 use Rattle.manual.specs.Words.{hash_size}
-use Rattle.manual.specs.Tags.{Transaction_Hash, Transaction_Hash_Size}
+use Rattle.manual.specs.Tags.{TransactionHash, TransactionHashSize}
 use Rattle.manual.specs.declared.Signing.TheVariants.{New, Again}
 use Rattle.manual.specs.Wallet.{signing, hashes_ok, sign_fields, sign_conditions}
 use Rattle.request.proofs.Laws.{asks_new, asks_again}
@@ -22,9 +22,9 @@ in_array : (p : List ℕ) (x : Found) → hashes_ok (length (value_of p x)) ≡ 
 in_array p (At b n) e = refl
 in_array p Absent e = e
 
-has_array : (v : View) → hashes_ok (length (val Transaction_Hash v)) ≡ true → has Transaction_Hash v ≡ true
+has_array : (v : View) → hashes_ok (length (val TransactionHash v)) ≡ true → has TransactionHash v ≡ true
 unfolding has val
-has_array v e = in_array v.bytes (v.at Transaction_Hash) e
+has_array v e = in_array v.bytes (v.at TransactionHash) e
 
 -- so the array's own test is the third of three
 the_third : (h a x : Bool) → (h ≡ true → x ≡ true) → (h && a) ≡ (x && (a && h))
@@ -37,13 +37,13 @@ the_third false false false f = refl
 
 -- CHECK 11
 abbrev sized : View → Bool
-sized v = alike (val Transaction_Hash_Size v) (hash_size ∷ [])
+sized v = alike (val TransactionHashSize v) (hash_size ∷ [])
 
 pub new_fields : (v : View) (n : ℕ) → signing v ≡ New n → (hashes_ok n && sized v) ≡ sign_fields v
 new_fields v n e =
     let h = asks_new v e in
     ap (λ k. hashes_ok k && sized v) h.1
-    ∙ the_third (hashes_ok (length (val Transaction_Hash v))) (sized v) (has Transaction_Hash v) (has_array v)
+    ∙ the_third (hashes_ok (length (val TransactionHash v))) (sized v) (has TransactionHash v) (has_array v)
     ∙ sym (rw h.0)
 
 pub again_fields : (v : View) → signing v ≡ Again → true ≡ sign_fields v

@@ -18,12 +18,12 @@ use denote.Signature.{type_at}
 use denote.Laws.{Is, Fixes}
 use Rattle.manual.specs.declared.Outcome.{Outcome}
 use Rattle.manual.specs.Settle.{holding, ask_call, settle_call, Posed, posed_by, Settled, settled_by, Off, off_of}
-use Rattle.history.specs.Demands.{Any_Card}
+use Rattle.history.specs.Demands.{AnyCard}
 use Rattle.history.proofs.Images.{model}
 use Rattle.computed.specs.Computes.{Computes, asked, settled, turned_off, Sliceable}
 use Rattle.computed.proofs.Meets.{computes_model}
 use Rattle.computed.proofs.Lent.{Passed, shared, lent, lfts_of, wholes, args_of, vals_of}
-use Rattle.computed.proofs.Start.{All_Sliceable, laid, agree}
+use Rattle.computed.proofs.Start.{AllSliceable, laid, agree}
 use Rattle.practice.specs.contracts.practice_ask as ask
 use Rattle.practice.proofs.practice_ask.Symbol as ask_code
 use Rattle.practice.specs.contracts.practice_settle as settle
@@ -114,8 +114,8 @@ off_set x y p q =
       next = bytes_set x.next y.next (ap (λ z. z.next) p) (ap (λ z. z.next) q) i j;
     }
 
-module _ {M : Type 1} {𝓤 : Ura M} (𝓛 : Logic 𝓤) (𝓜 : Model 𝓤 𝓛.H) (𝓡 : Running 𝓤 𝓛.H 𝓜) (f : Any_Card) (h : Computes f) where
-  ask_agrees : (img q d page : List ℕ) → All_Sliceable (ask_slices img q d page)
+module _ {M : Type 1} {𝓤 : Ura M} (𝓛 : Logic 𝓤) (𝓜 : Model 𝓤 𝓛.H) (𝓡 : Running 𝓤 𝓛.H 𝓜) (f : AnyCard) (h : Computes f) where
+  ask_agrees : (img q d page : List ℕ) → AllSliceable (ask_slices img q d page)
       → f.taps.ask (holding img) (ask_call q d page) ≡ model.taps.ask (holding img) (ask_call q d page)
   ask_agrees img q d page g =
       let ps : List Passed = laid 0 (ask_slices img q d page) in
@@ -129,7 +129,7 @@ module _ {M : Type 1} {𝓤 : Ura M} (𝓛 : Logic 𝓤) (𝓜 : Model 𝓤 𝓛
       (asked f) (asked model) h.asks computes_model.asks outcome_fixes g) (posed_set _ _)
       (λ r. sym r.5 ∙ ap (λ ws. posed_by r.1 ws.1.1.1.0) r.4 ∙ r.6)
 
-  settle_agrees : (img q d a out nxt : List ℕ) → All_Sliceable (settle_slices img q d a out nxt)
+  settle_agrees : (img q d a out nxt : List ℕ) → AllSliceable (settle_slices img q d a out nxt)
       → f.taps.settle (holding img) (settle_call q d a out nxt) ≡ model.taps.settle (holding img) (settle_call q d a out nxt)
   settle_agrees img q d a out nxt g =
       let ps : List Passed = laid 0 (settle_slices img q d a out nxt) in
@@ -143,7 +143,7 @@ module _ {M : Type 1} {𝓤 : Ura M} (𝓛 : Logic 𝓤) (𝓜 : Model 𝓤 𝓛
       (settled f) (settled model) h.settles computes_model.settles (λ _. outcome_fixes ([], ([], ([], ([], tt))))) g) (settled_set _ _)
       (λ r. sym r.5 ∙ ap (λ ws. settled_by r.1 ws.1.1.1.1.0 ws.1.1.1.1.1.0) r.4 ∙ r.6)
 
-  off_agrees : (img nxt : List ℕ) → All_Sliceable (off_slices img nxt) → f.power_off (holding img) nxt ≡ model.power_off (holding img) nxt
+  off_agrees : (img nxt : List ℕ) → AllSliceable (off_slices img nxt) → f.power_off (holding img) nxt ≡ model.power_off (holding img) nxt
   off_agrees img nxt g =
       let ps : List Passed = laid 0 (off_slices img nxt) in
       ∥∥₁_elim (agree 𝓛 𝓜 𝓡 off.ended off_code.routine (off_slices img nxt)
@@ -157,7 +157,7 @@ module _ {M : Type 1} {𝓤 : Ura M} (𝓛 : Logic 𝓤) (𝓜 : Model 𝓤 𝓛
       (λ r. sym r.5 ∙ ap (λ ws. off_of r.1 ws.1.0) r.4 ∙ r.6)
 
 -- at the closed model, from a memory made of the bytes, so that nothing of the logic is left in the statement
-module _ (f : Any_Card) (h : Computes f) where
+module _ (f : AnyCard) (h : Computes f) where
   pub ask_is : (img q d page : List ℕ) → Sliceable img → Sliceable q → Sliceable d → Sliceable page
       → f.taps.ask (holding img) (ask_call q d page) ≡ model.taps.ask (holding img) (ask_call q d page)
   ask_is img q d page gi gq gd gp =

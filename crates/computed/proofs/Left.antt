@@ -32,7 +32,7 @@ use denote.Triple.Clauses.{Ended, at_exit}
 use denote.Triple.Clauses as Clauses
 use Rattle.computed.specs.Computes.{Promise, Keeps}
 use Rattle.computed.proofs.Machine.{Ends, ends}
-use Rattle.computed.proofs.Lent.{Passed, shared, lent, Fresh, All_Roomy, Last, Lasts, saids_of, bytes_at, lies_all, tokens, owned, asides, last, lasts}
+use Rattle.computed.proofs.Lent.{Passed, shared, lent, Fresh, AllRoomy, Last, Lasts, saids_of, bytes_at, lies_all, tokens, owned, asides, last, lasts}
 use Rattle.computed.proofs.Lent.{Handed, lends_all, back_all}
 
 -- the last bytes are found in memory
@@ -161,7 +161,7 @@ module _ {M : Type 1} {𝓤 : Ura M} (𝓛 : Logic 𝓤) (𝓜 : Model 𝓤 𝓛
       -- from any memory that has the bytes: both promises' runs are one run, and its memory fixes what they speak of
       pub once : (φ ψ : Promise T) → Keeps T φ ρ → Keeps T ψ ρ
           → ((κs : Lfts T.signature.lifetimes) → Fixes (type_at T.signature.result κs) (Is (type_at T.signature.result κs)) (λ z. z))
-          → All_Roomy ps → (σ : Memory) (F : SProp 𝓤) → Satisfies 𝓤 H 𝓜 σ (lies_all 𝓛 ps ∗ F) → ∥ Once φ ψ ∥₁
+          → AllRoomy ps → (σ : Memory) (F : SProp 𝓤) → Satisfies 𝓤 H 𝓜 σ (lies_all 𝓛 ps ∗ F) → ∥ Once φ ψ ∥₁
       once φ ψ k l fx g σ F s =
           let Φ : Fresh ps → SProp 𝓤 = Handed 𝓛 0 ps in
           ∥∥₁_elim (sat_ex∗ 𝓤 H 𝓜 σ Φ F (sat_⇛ 𝓤 H 𝓜 σ (ex 𝓤 Φ) F (sat_weaken 𝓤 H 𝓜 σ (mono_l 𝓤 F (lends_all 𝓛 0 ps g)) s))) ∥∥₁_prop (λ q.

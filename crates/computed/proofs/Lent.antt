@@ -40,9 +40,9 @@ abbrev pub Roomy : Passed → Type 0
 Roomy (shared ys b o) = Room u8 (length ys)
 Roomy (lent ys b o) = Room u8 (length ys)
 
-abbrev pub All_Roomy : List Passed → Type 0
-All_Roomy [] = Unit {0}
-All_Roomy (p ∷ ps) = Roomy p × All_Roomy ps
+abbrev pub AllRoomy : List Passed → Type 0
+AllRoomy [] = Unit {0}
+AllRoomy (p ∷ ps) = Roomy p × AllRoomy ps
 
 -- the call's lifetimes, types, arguments and machine values; j is the first lifetime's number
 abbrev pub lfts_of : (ps : List Passed) → Fresh ps → Lfts (length ps)
@@ -213,7 +213,7 @@ module _ {M : Type 1} {𝓤 : Ura M} (𝓛 : Logic 𝓤) where
           -- [what the rest owns; what the rest is owed; the rest's tokens; what is owned; what is owed; the token]
           move ! (5 ∷ 2 ∷ []) $ join ! $ frame ! $ move ! (2 ∷ 0 ∷ []) $ join ! $ frame ! $ move ! (1 ∷ 0 ∷ []) $ done !)))
 
-      pub lends_all : (j : ℕ) (ps : List Passed) → All_Roomy ps → lies_all ps ⊢ H.⇛ (ex 𝓤 (Handed j ps))
+      pub lends_all : (j : ℕ) (ps : List Passed) → AllRoomy ps → lies_all ps ⊢ H.⇛ (ex 𝓤 (Handed j ps))
       lends_all j [] g = qed 𝓛 [] ∵ updating ! $ at_once ! $ show ! (Handed j []) tt $ nothing ! $ nothing ! $ nothing ! $ done !
       lends_all j (p ∷ ps) g = lends_step j p ps g.0 (lends_all (suc j) ps g.1)
 

@@ -7,7 +7,7 @@ use prog.Model.{Model}
 use types.Logic.{Logic}
 use contract.Running.{Running}
 use contract.Adequate.{Satisfies}
-use Rattle.history.specs.Demands.{Any_Card, Demand1, Demand2, Demand3}
+use Rattle.history.specs.Demands.{AnyCard, Demand1, Demand2, Demand3}
 use Rattle.history.proofs.Images.{model, model_demand2, is_model}
 use Rattle.history.proofs.Theorems.{demand1, demand3}
 use Rattle.computed.specs.Computes.{Computes, asked, settled, turned_off}
@@ -31,15 +31,15 @@ computes_model =
     }
 
 -- every card that meets demand 2 is what the code computes
-pub code_computes : (f : Any_Card) → Demand2 f → Computes f
+pub code_computes : (f : AnyCard) → Demand2 f → Computes f
 code_computes f h = subst Computes (is_model f h) computes_model
 
 -- and there is one
-pub code_demands : (f : Any_Card) × Computes f × Demand1 f × Demand2 f × Demand3 f
+pub code_demands : (f : AnyCard) × Computes f × Demand1 f × Demand2 f × Demand3 f
 code_demands = (model, computes_model, demand1 model model_demand2, model_demand2, demand3 model model_demand2)
 
 -- on the machine: a run of the code from any memory that has the arguments ends, and returns and leaves what the card says
-module _ {M : Type 1} {𝓤 : Ura M} (𝓛 : Logic 𝓤) (𝓜 : Model 𝓤 𝓛.H) (𝓡 : Running 𝓤 𝓛.H 𝓜) (f : Any_Card) (h : Demand2 f) (σ : Memory)
+module _ {M : Type 1} {𝓤 : Ura M} (𝓛 : Logic 𝓤) (𝓜 : Model 𝓤 𝓛.H) (𝓡 : Running 𝓤 𝓛.H 𝓜) (f : AnyCard) (h : Demand2 f) (σ : Memory)
     (F : SProp 𝓤) where
   open 𝓛 use {H}
 

@@ -25,7 +25,7 @@ use denote.Laws.{Is, Fixes}
 use denote.Triple.Clauses.{Ended}
 use Rattle.wire.specs.Wire.{Bytes}
 use Rattle.computed.specs.Computes.{Promise, Keeps, Sliceable}
-use Rattle.computed.proofs.Lent.{Passed, shared, lent, Roomy, All_Roomy, bytes_at, lies, lies_all}
+use Rattle.computed.proofs.Lent.{Passed, shared, lent, Roomy, AllRoomy, bytes_at, lies, lies_all}
 use Rattle.computed.proofs.Left.{Takes, Once, once}
 
 abbrev bytes_of : Passed → List ℕ
@@ -49,9 +49,9 @@ abbrev pub laid : ℕ → List Passed → List Passed
 laid o [] = []
 laid o (p ∷ ps) = moved p o ∷ laid (after (bytes_of p) o) ps
 
-abbrev pub All_Sliceable : List Passed → Type 0
-All_Sliceable [] = Unit {0}
-All_Sliceable (p ∷ ps) = Sliceable (bytes_of p) × All_Sliceable ps
+abbrev pub AllSliceable : List Passed → Type 0
+AllSliceable [] = Unit {0}
+AllSliceable (p ∷ ps) = Sliceable (bytes_of p) × AllSliceable ps
 
 -- each byte fits its place, and each slice has room
 fit : (xs : List ℕ) → Bytes xs → AllFit w8 xs
@@ -62,7 +62,7 @@ fit_both : (xs ys : List ℕ) → AllFit w8 xs → AllFit w8 ys → AllFit w8 (x
 fit_both [] ys h k = k
 fit_both (x ∷ xs) ys h k = (h.0, fit_both xs ys h.1 k)
 
-fit_joined : (ps : List Passed) → All_Sliceable ps → AllFit w8 (joined ps)
+fit_joined : (ps : List Passed) → AllSliceable ps → AllFit w8 (joined ps)
 fit_joined [] g = tt
 fit_joined (p ∷ ps) g = fit_both (bytes_of p) (joined ps) (fit (bytes_of p) g.0.0) (fit_joined ps g.1)
 
@@ -73,7 +73,7 @@ roomy : (p : Passed) (o : ℕ) → Sliceable (bytes_of p) → Roomy (moved p o)
 roomy (shared ys b o) o' g = has_room (length ys) g.1
 roomy (lent ys b o) o' g = has_room (length ys) g.1
 
-pub all_roomy : (ps : List Passed) (o : ℕ) → All_Sliceable ps → All_Roomy (laid o ps)
+pub all_roomy : (ps : List Passed) (o : ℕ) → AllSliceable ps → AllRoomy (laid o ps)
 all_roomy [] o g = tt
 all_roomy (p ∷ ps) o g = (roomy p o g.0, all_roomy ps (after (bytes_of p) o) g.1)
 
@@ -99,13 +99,13 @@ module _ {M : Type 1} {𝓤 : Ura M} (𝓛 : Logic 𝓤) (𝓜 : Model 𝓤 𝓛
       via 𝓤 (sep 𝓤 (bytes_at 𝓛 (bytes_of p) 0 o) (bytes_at 𝓛 (joined ps) 0 (after (bytes_of p) o))) (cut (bytes_of p) (joined ps) o)
       (mono∗ 𝓤 (there p o) (lay ps (after (bytes_of p) o)))
 
-  pub starts : (ps : List Passed) → All_Sliceable ps → Satisfies 𝓤 H 𝓜 (start_mem (joined ps) []) (sep 𝓤 (lies_all 𝓛 (laid 0 ps)) (emp 𝓤))
+  pub starts : (ps : List Passed) → AllSliceable ps → Satisfies 𝓤 H 𝓜 (start_mem (joined ps) []) (sep 𝓤 (lies_all 𝓛 (laid 0 ps)) (emp 𝓤))
   starts ps g = sat_weaken 𝓤 H 𝓜 (start_mem (joined ps) []) (mono_l 𝓤 (emp 𝓤) (lay ps 0)) (start_Satisfies 𝓤 H 𝓜 (joined ps) [] (fit_joined ps g) tt)
 
   -- so two promises that the code keeps speak of one result and of the same last bytes, on all slices
   pub agree : (𝓡 : Running 𝓤 H 𝓜) (T : Ended) (ρ : Routine) (ps : List Passed) (t : Takes 𝓛 𝓜 𝓡 T ρ (laid 0 ps)) (φ ψ : Promise T)
       → Keeps T φ ρ → Keeps T ψ ρ
       → ((κs : Lfts T.signature.lifetimes) → Fixes (type_at T.signature.result κs) (Is (type_at T.signature.result κs)) (λ z. z))
-      → All_Sliceable ps → ∥ Once 𝓛 𝓜 𝓡 T ρ (laid 0 ps) t φ ψ ∥₁
+      → AllSliceable ps → ∥ Once 𝓛 𝓜 𝓡 T ρ (laid 0 ps) t φ ψ ∥₁
   agree 𝓡 T ρ ps t φ ψ k l fx g =
       once 𝓛 𝓜 𝓡 T ρ (laid 0 ps) t φ ψ k l fx (all_roomy ps 0 g) (start_mem (joined ps) []) (emp 𝓤) (starts ps g)

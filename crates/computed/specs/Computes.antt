@@ -13,7 +13,7 @@ use denote.Triple.Spec.{Meets}
 use denote.Triple.Clauses.{Clauses, Ended, AtExit, closing}
 use Rattle.wire.specs.Wire.{Bytes}
 use Rattle.manual.specs.Settle.{holding, ask_call, settle_call, settled_by, posed_by, off_of}
-use Rattle.history.specs.Demands.{Any_Card}
+use Rattle.history.specs.Demands.{AnyCard}
 use Rattle.practice.specs.contracts.practice_ask as ask
 use Rattle.practice.proofs.practice_ask.Symbol as ask_code
 use Rattle.practice.specs.contracts.practice_settle as settle
@@ -35,22 +35,22 @@ Keeps T φ ρ =
     → Meets 𝓛 T.signature (𝓡.run ρ) (closing 𝓛 T (promises T φ 𝓤))
 
 -- image, request, draw, buffer for questions
-abbrev pub asked : Any_Card → Promise ask.ended
+abbrev pub asked : AnyCard → Promise ask.ended
 asked f κs a z e =
     posed_by z e.1.1.1.0.now ≡ f.taps.ask (holding a.0.now) (ask_call a.1.0.now a.1.1.0.now a.1.1.1.0.now)
 
 -- image, request, draw, answers, buffers for the response and the next image
-abbrev pub settled : Any_Card → Promise settle.ended
+abbrev pub settled : AnyCard → Promise settle.ended
 settled f κs a z e =
     settled_by z e.1.1.1.1.0.now e.1.1.1.1.1.0.now
     ≡ f.taps.settle (holding a.0.now)
     (settle_call a.1.0.now a.1.1.0.now a.1.1.1.0.now a.1.1.1.1.0.now a.1.1.1.1.1.0.now)
 
 -- image, and the buffer for the next one
-abbrev pub turned_off : Any_Card → Promise off.ended
+abbrev pub turned_off : AnyCard → Promise off.ended
 turned_off f κs a z e = off_of z e.1.0.now ≡ f.power_off (holding a.0.now) a.1.0.now
 
-pub record Computes (f : Any_Card) : Type 2 where
+pub record Computes (f : AnyCard) : Type 2 where
   pub asks : Keeps ask.ended (asked f) ask_code.routine
   pub settles : Keeps settle.ended (settled f) settle_code.routine
   pub turns_off : Keeps off.ended (turned_off f) off_code.routine

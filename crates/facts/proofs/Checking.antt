@@ -13,7 +13,7 @@ use Rattle.card.specs.declared.Face.{Face}
 use Rattle.card.specs.Layout.{key_room, signature_size}
 use Rattle.card.specs.Values.{checked_once, validated_once}
 use Rattle.cards.proofs.Shape.{shape_with_counters}
-use Rattle.manual.specs.Tags.{Card_Signature, Public_Key_Challenge, Public_Key_Salt, Challenge}
+use Rattle.manual.specs.Tags.{CardSignature, PublicKeyChallenge, PublicKeySalt, Challenge}
 use Rattle.manual.specs.Row.{Question, question}
 use Rattle.manual.specs.Checking.{salt_size, challenged, key_salt, signature2, key_asked, key_alone, check_fields, key_message, key_fields}
 use Rattle.manual.specs.Checking.{check_wallet, verify_card, validate_card}
@@ -28,7 +28,7 @@ key_message_long :
     (f : Face) (v : View) (d : List ℕ) → Small f → check_fields v ≡ true → key_asked v ≡ true
     → parts (key_message f v d) ≤ key_room + salt_size + salt_size
 key_message_long f v d s e h =
-    let sized = eqb (length (val Public_Key_Challenge v)) salt_size in
+    let sized = eqb (length (val PublicKeyChallenge v)) salt_size in
     let k = key_long f.front.key in
     let l = rest (key_alone v) (asked (key_asked v) (key_alone v || sized) h (both_true (challenged v) (not (key_asked v) || (key_alone v || sized)) e).1) in
     omega arith
@@ -37,10 +37,10 @@ key_message_long f v d s e h =
     asked a b p e = rw p at e
 
     rest :
-        (b : Bool) → (b || eqb (length (val Public_Key_Challenge v)) salt_size) ≡ true
-        → parts (cond b [] (val Public_Key_Challenge v ∷ key_salt d ∷ [])) ≤ salt_size + salt_size
+        (b : Bool) → (b || eqb (length (val PublicKeyChallenge v)) salt_size) ≡ true
+        → parts (cond b [] (val PublicKeyChallenge v ∷ key_salt d ∷ [])) ≤ salt_size + salt_size
     rest true z = omega arith
-    rest false z = omega (arith, eqb-true (length (val Public_Key_Challenge v)) salt_size z, part_most d salt_size salt_size)
+    rest false z = omega (arith, eqb-true (length (val PublicKeyChallenge v)) salt_size z, part_most d salt_size salt_size)
 
 pub of_check_wallet : Facts check_wallet
 of_check_wallet =
@@ -62,7 +62,7 @@ of_check_wallet =
           let y = part_most d salt_size salt_size in
           let z = part_most a 0 signature_size in
           let u = part_most a signature_size signature_size in
-          let k = weight_cond (key_alone v) (fld Card_Signature (signature2 a) ∷ []) (fld Public_Key_Salt (key_salt d) ∷ fld Card_Signature (signature2 a) ∷ []) in
+          let k = weight_cond (key_alone v) (fld CardSignature (signature2 a) ∷ []) (fld PublicKeySalt (key_salt d) ∷ fld CardSignature (signature2 a) ∷ []) in
           let l = weight_cond (key_asked v) (key_fields f v d a) [] in
           omega arith;
     }

@@ -12,7 +12,7 @@ use Rattle.card.specs.declared.Face.{Face}
 use Rattle.card.specs.Layout.{cid_size, seed_size, key_room, data_room, signature_size, last_room, block_width}
 use Rattle.card.specs.Layout.{fixed_at, key_at, user_at, protected_at, issuer_at, last_at}
 use Rattle.card.specs.Image.{decode}
-use Rattle.card.specs.Shape.{Shape_Codes, Shape_Face}
+use Rattle.card.specs.Shape.{ShapeCodes, ShapeFace}
 use Rattle.manual.specs.Words.{questions_room, response_room}
 use Rattle.manual.specs.Row.{Row, Matched, asked}
 use Rattle.manual.specs.Settle.{fields_of}
@@ -43,7 +43,7 @@ small_decode l =
       last = part_most l (last_at + 1) last_room;
     }
 
-pub small_shape : {f : Face} → Shape_Face f → Small f
+pub small_shape : {f : Face} → ShapeFace f → Small f
 small_shape s =
     record {
       cid = omega (arith, s.front.fixed.cid);
@@ -58,8 +58,8 @@ small_shape s =
 
 pub record Facts (r : Row) : Type 0 where
   -- whatever is stored, the arrays have their lengths
-  pub shape : (f : Face) (v : View) (a : List ℕ) → Shape_Face f → Shape_Face (r.next f v a)
-  pub codes : (v : View) (x : Codes) → Shape_Codes x → Shape_Codes (r.recode v x)
+  pub shape : (f : Face) (v : View) (a : List ℕ) → ShapeFace f → ShapeFace (r.next f v a)
+  pub codes : (v : View) (x : Codes) → ShapeCodes x → ShapeCodes (r.recode v x)
   -- 9000 to 9003
   pub more : (m : Matched) → r.more m ≤ 3
   -- what its questions weigh where check 11 has passed, and what a response does, of the face after, with CID and a status word

@@ -80,27 +80,27 @@ held_silent y v m (b ∷ s) =
     (λ _. ap (λ (n : ℕ). held_text (ended_at y) n (snoc v b) m s) (lines_stay b) ∙ held_silent y (snoc v b) m s))
 
 -- BYTES WITHOUT A LINE FEED
-abbrev pub No_Feed : List ℕ → Type 0
-No_Feed v = all_of (other 10) v ≡ true
+abbrev pub NoFeed : List ℕ → Type 0
+NoFeed v = all_of (other 10) v ≡ true
 
-pub no_feed : No_Feed []
+pub no_feed : NoFeed []
 unfolding all_of
 no_feed = refl
 
-pub snoc_no_feed : (v : List ℕ) (b : ℕ) → No_Feed v → eqb b 10 ≡ false → No_Feed (snoc v b)
+pub snoc_no_feed : (v : List ℕ) (b : ℕ) → NoFeed v → eqb b 10 ≡ false → NoFeed (snoc v b)
 unfolding all_of
 snoc_no_feed [] b h e = rw e
 snoc_no_feed (x ∷ v) b h e = let z = both_true (other 10 x) (all_of (other 10) v) h in rw z.0 (snoc_no_feed v b z.1 e)
 
 -- the lines of a text that begins with them
-lines_past : (v s : List ℕ) → No_Feed v → lines_of (v ++ (10 ∷ s)) ≡ snoc v 10 ∷ lines_of s
+lines_past : (v s : List ℕ) → NoFeed v → lines_of (v ++ (10 ∷ s)) ≡ snoc v 10 ∷ lines_of s
 unfolding lines_of all_of before
 lines_past [] s h = refl
 lines_past (x ∷ v) s h =
     let z = both_true (other 10 x) (all_of (other 10) v) h in
     rw (not-true (eqb x 10) z.0) (ap (before x) (lines_past v s z.1))
 
-lines_alone : (x : ℕ) (v : List ℕ) → No_Feed (x ∷ v) → lines_of (x ∷ v) ≡ (x ∷ v) ∷ []
+lines_alone : (x : ℕ) (v : List ℕ) → NoFeed (x ∷ v) → lines_of (x ∷ v) ≡ (x ∷ v) ∷ []
 unfolding lines_of all_of before
 lines_alone x [] h = let z = both_true (other 10 x) true h in rw (not-true (eqb x 10) z.0)
 lines_alone x (w ∷ v) h =
@@ -120,7 +120,7 @@ unfolding before
 before_some x [] = ([], [], refl)
 before_some x (l ∷ ls) = (l, ls, refl)
 
-lines_start : (x : ℕ) (v s : List ℕ) → No_Feed (x ∷ v) → Starts (x ∷ v) (lines_of ((x ∷ v) ++ s))
+lines_start : (x : ℕ) (v s : List ℕ) → NoFeed (x ∷ v) → Starts (x ∷ v) (lines_of ((x ∷ v) ++ s))
 unfolding lines_of all_of
 lines_start x [] s h = let z = both_true (other 10 x) true h in rw (not-true (eqb x 10) z.0) (before_some x (lines_of s))
 lines_start x (w ∷ v) s h =
@@ -128,7 +128,7 @@ lines_start x (w ∷ v) s h =
     rw (not-true (eqb x 10) z.0) (before_starts x (w ∷ v) (lines_of ((w ∷ v) ++ s)) (lines_start w v s z.1))
 
 -- they are no line of a tap, and no pause
-scan_over : (v r : List ℕ) → No_Feed v → length_to 10 (v ++ r) ≡ length v + length_to 10 r
+scan_over : (v r : List ℕ) → NoFeed v → length_to 10 (v ++ r) ≡ length v + length_to 10 r
 unfolding length_to all_of
 scan_over [] r h = omega arith
 scan_over (x ∷ v) r h =
@@ -139,14 +139,14 @@ nothing_to_scan : length_to 10 [] ≡ 0
 unfolding length_to
 nothing_to_scan = refl
 
-unended : (v : List ℕ) → No_Feed v → Neither v
+unended : (v : List ℕ) → NoFeed v → Neither v
 unfolding is_tap_line is_pause_line good_line ended head_to
 unended v h =
     let n : length_to 10 v ≡ length v = ap (length_to 10) (sym (append-nil v)) ∙ omega (arith, scan_over v [] h, nothing_to_scan) in
     let k : length v ≤ length (take (length_to 10 v) v) = omega (arith, n, length-take (length_to 10 v) v) in
     record { tap = rw (le-ltb _ _ k); pause = rw (le-ltb _ _ k) }
 
-too_long : (v r : List ℕ) → No_Feed v → text_room ≤ length v → Neither (v ++ r)
+too_long : (v r : List ℕ) → NoFeed v → text_room ≤ length v → Neither (v ++ r)
 unfolding is_tap_line is_pause_line head_to
 too_long v r h k = record { tap = rw (lt-leb _ _ long) (and_false (ended l)); pause = go (is_pause_line l) refl }
   where
@@ -175,7 +175,7 @@ module _ (n b : ℕ) where
       go false = refl
 
 -- the end of the bytes
-at_last : (y : Play) (v m : List ℕ) → No_Feed v → held_text y sheet_lines v m [] ≡ run_text y m (lines_of v)
+at_last : (y : Play) (v m : List ℕ) → NoFeed v → held_text y sheet_lines v m [] ≡ run_text y m (lines_of v)
 unfolding held_text lines_of run_text
 at_last y [] m h = ap (λ z. z.text) (line_end y [] m)
 at_last y (x ∷ v) m h =
@@ -185,7 +185,7 @@ at_last y (x ∷ v) m h =
     ∙ sym (ap (run_text y m) (lines_alone x v h) ∙ run_stops y m (x ∷ v) [] (unended (x ∷ v) h))
 
 -- ONE MORE BYTE, where the bytes after it print what their lines print
-module _ (y : Play) (v m : List ℕ) (b : ℕ) (s : List ℕ) (h : No_Feed v) where
+module _ (y : Play) (v m : List ℕ) (b : ℕ) (s : List ℕ) (h : NoFeed v) where
   -- it is a line feed
   by_feed :
       eqb b 10 ≡ true → ((z : Stepped) → held_text z.play sheet_lines [] z.image s ≡ run_text z.play z.image (lines_of s))
@@ -210,14 +210,14 @@ module _ (y : Play) (v m : List ℕ) (b : ℕ) (s : List ℕ) (h : No_Feed v) wh
   unfolding held_text
   by_hold e f = rw (at_full (length (snoc v b)) b e, f) (ap (λ (n : ℕ). held_text y n (snoc v b) m s) (lines_stay b))
 
-run_long : (y : Play) (v m s : List ℕ) → No_Feed v → text_room ≤ length v → run_text y m (lines_of (v ++ s)) ≡ stop_text y
+run_long : (y : Play) (v m s : List ℕ) → NoFeed v → text_room ≤ length v → run_text y m (lines_of (v ++ s)) ≡ stop_text y
 run_long y [] m s h k = absurd (omega arith)
 run_long y (x ∷ v) m s h k =
     let z = lines_start x v s h in
     ap (run_text y m) z.2 ∙ run_stops y m ((x ∷ v) ++ z.0) z.1 (too_long (x ∷ v) z.0 h k)
 
 -- THE BYTES AFTER THE SHEET print what their lines print, whatever they are and whatever has been played
-pub after_sheet_lem : (y : Play) (v m s : List ℕ) → No_Feed v → held_text y sheet_lines v m s ≡ run_text y m (lines_of (v ++ s))
+pub after_sheet_lem : (y : Play) (v m s : List ℕ) → NoFeed v → held_text y sheet_lines v m s ≡ run_text y m (lines_of (v ++ s))
 after_sheet_lem y v m [] h = at_last y v m h ∙ ap (λ (t : List ℕ). run_text y m (lines_of t)) (sym (append-nil v))
 after_sheet_lem y v m (b ∷ s) h =
     go (eqb b 10) (leb text_room (length (snoc v b))) refl refl (λ z. after_sheet_lem z.play [] z.image s no_feed) (after_sheet_lem y (snoc v b) m s)
@@ -228,7 +228,7 @@ after_sheet_lem y v m (b ∷ s) h =
     go :
         (c d : Bool) → eqb b 10 ≡ c → leb text_room (length (snoc v b)) ≡ d
         → ((z : Stepped) → held_text z.play sheet_lines [] z.image s ≡ run_text z.play z.image (lines_of s))
-        → (No_Feed (snoc v b) → held_text y sheet_lines (snoc v b) m s ≡ run_text y m (lines_of (snoc v b ++ s)))
+        → (NoFeed (snoc v b) → held_text y sheet_lines (snoc v b) m s ≡ run_text y m (lines_of (snoc v b ++ s)))
         → held_text y sheet_lines v m (b ∷ s) ≡ run_text y m (lines_of (v ++ (b ∷ s)))
     go true d e f ih₁ ih₂ = by_feed y v m b s h e ih₁
     go false true e f ih₁ ih₂ =

@@ -19,13 +19,13 @@ use Rattle.player.specs.declared.Player.{Player}
 use Rattle.player.specs.Feed.{at_first, after, text_room, is_whole, held_with, Left, left_by, roomy, fed, at_end, closed}
 use Rattle.fedtext.specs.Whole.{more, count, turn, fed_text, printed_by}
 use Rattle.fedtext.proofs.Held.{held_text, buffer_holds}
-use Rattle.fedtext.proofs.Later.{No_Feed, after_sheet_lem}
+use Rattle.fedtext.proofs.Later.{NoFeed, after_sheet_lem}
 use Rattle.sheets_back.specs.Feeds.{feeds}
 use Rattle.fedtext.proofs.First.{sheet_first}
 
 -- AFTER THE SHEET: with a place for a line and one byte more, and with bytes held that have no line feed, what is printed is what the lines print
 pub later_prints :
-    (p : Player) (text m s : List ℕ) → p.lines ≡ sheet_lines → No_Feed (part text 0 p.held) → p.held < text_room → text_room ≤ length text
+    (p : Player) (text m s : List ℕ) → p.lines ≡ sheet_lines → NoFeed (part text 0 p.held) → p.held < text_room → text_room ≤ length text
     → fed_text p text m s ≡ run_text p.play m (lines_of (part text 0 p.held ++ s))
 later_prints p text m s e f h r =
     let v : List ℕ = part text 0 p.held in

@@ -1,5 +1,5 @@
 -- NO TWO OUTCOMES MEET A PROMISE of fields: a theorem about each public function's own contract. Assumes nothing.
-use Rattle.wire.specs.One_Outcome.{One_Outcome, plain}
+use Rattle.wire.specs.OneOutcome.{OneOutcome, plain}
 use Rattle.wire.proofs.Unique.{one_equal, one_write}
 use Rattle.fields.specs.contracts.put_field as put_field
 use Rattle.fields.specs.contracts.put_byte as put_byte
@@ -9,23 +9,23 @@ use Rattle.fields.specs.contracts.step_at as step_at
 use Rattle.fields.specs.contracts.find as find
 use Rattle.fields.specs.contracts.stands as stands
 
-pub put_field_one : One_Outcome put_field.ended (λ M. put_field.clauses {M = M})
+pub put_field_one : OneOutcome put_field.ended (λ M. put_field.clauses {M = M})
 put_field_one M 𝓤 𝓛 m r κs a g z z' ws ws' = plain 𝓤 (λ p q. let e = one_write p q in (e.1, λ i. (e.0 i, (tt, (tt, (tt, tt))))))
 
-pub put_byte_one : One_Outcome put_byte.ended (λ M. put_byte.clauses {M = M})
+pub put_byte_one : OneOutcome put_byte.ended (λ M. put_byte.clauses {M = M})
 put_byte_one M 𝓤 𝓛 m r κs a g z z' ws ws' = plain 𝓤 (λ p q. let e = one_write p q in (e.1, λ i. (e.0 i, (tt, (tt, (tt, tt))))))
 
-pub put_short_one : One_Outcome put_short.ended (λ M. put_short.clauses {M = M})
+pub put_short_one : OneOutcome put_short.ended (λ M. put_short.clauses {M = M})
 put_short_one M 𝓤 𝓛 m r κs a g z z' ws ws' = plain 𝓤 (λ p q. let e = one_write p q in (e.1, λ i. (e.0 i, (tt, (tt, (tt, tt))))))
 
-pub put_number_one : One_Outcome put_number.ended (λ M. put_number.clauses {M = M})
+pub put_number_one : OneOutcome put_number.ended (λ M. put_number.clauses {M = M})
 put_number_one M 𝓤 𝓛 m r κs a g z z' ws ws' = plain 𝓤 (λ p q. let e = one_write p q in (e.1, λ i. (e.0 i, (tt, (tt, (tt, tt))))))
 
-pub step_at_one : One_Outcome step_at.ended (λ M. step_at.clauses {M = M})
+pub step_at_one : OneOutcome step_at.ended (λ M. step_at.clauses {M = M})
 step_at_one M 𝓤 𝓛 m r κs a g z z' ws ws' = plain 𝓤 (λ p q. one_equal p q)
 
-pub find_one : One_Outcome find.ended (λ M. find.clauses {M = M})
+pub find_one : OneOutcome find.ended (λ M. find.clauses {M = M})
 find_one M 𝓤 𝓛 m r κs a g z z' ws ws' = plain 𝓤 (λ p q. one_equal p q)
 
-pub stands_one : One_Outcome stands.ended (λ M. stands.clauses {M = M})
+pub stands_one : OneOutcome stands.ended (λ M. stands.clauses {M = M})
 stands_one M 𝓤 𝓛 m r κs a g z z' ws ws' = plain 𝓤 (λ p q. one_equal p q)

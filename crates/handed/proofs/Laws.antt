@@ -21,7 +21,7 @@ use Rattle.noteline.specs.NoteLine.{feed}
 use Rattle.union.specs.declared.Match.{Match}
 use Rattle.union.specs.declared.Match.TheVariants.{Agree, Differ}
 use Rattle.union.specs.Union.{aside, merged, lowest, fitting_of, matched_of, decided, join_of, join_answer}
-use Rattle.booktext.specs.BookText.{Meaning, Book, Bad_At, book_parts, answer_from}
+use Rattle.booktext.specs.BookText.{Meaning, Book, BadAt, book_parts, answer_from}
 use Rattle.booktext.proofs.Laws.{Within}
 use Rattle.handed.specs.Handed.{told, printed, outcome_of, union_of, handed_parts, line_in, refusing, handed_answer}
 
@@ -94,6 +94,6 @@ join_reads f s h g = rw (shelf_bad f h, shelf_bad s g, shelf_whole f h, shelf_wh
 
 pub handed_as : (m n : Meaning) → Within 256 m → Within 256 n → print (handed_answer (reading m) (reading n)) ≡ handed_parts m n
 unfolding handed_answer handed_parts printed outcome_of union_of refusing line_in answer_from answer_of count_of shelf_of
-handed_as (Bad_At k) n h g = rw (lt-ltb 0 k h)
-handed_as (Book f) (Bad_At k) h g = rw (lt-ltb 0 k g)
+handed_as (BadAt k) n h g = rw (lt-ltb 0 k h)
+handed_as (Book f) (BadAt k) h g = rw (lt-ltb 0 k g)
 handed_as (Book f) (Book s) h g = ap print (join_reads f s h g) ∙ prints_join f s

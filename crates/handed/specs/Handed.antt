@@ -10,17 +10,17 @@ use Rattle.shelf.specs.Shelf.{most}
 use Rattle.shelf.specs.Outcome.{answer_of}
 use Rattle.noteline.specs.NoteLine.{tab, feed}
 use Rattle.union.specs.Union.{merged, join_of, join_answer}
-use Rattle.booktext.specs.BookText.{Meaning, Book, Bad_At, book_parts}
+use Rattle.booktext.specs.BookText.{Meaning, Book, BadAt, book_parts}
 
 -- THE OUTCOME for two texts: a bad line, "the first book's before the second's", else that of the join; and the notes of both
 unfoldable pub outcome_of : Meaning → Meaning → Outcome
-outcome_of (Bad_At k) m = BadLine 1 k
-outcome_of (Book f) (Bad_At k) = BadLine 2 k
+outcome_of (BadAt k) m = BadLine 1 k
+outcome_of (Book f) (BadAt k) = BadLine 2 k
 outcome_of (Book f) (Book s) = join_of most f s
 
 unfoldable pub union_of : Meaning → Meaning → List Note
-union_of (Bad_At k) m = []
-union_of (Book f) (Bad_At k) = []
+union_of (BadAt k) m = []
+union_of (Book f) (BadAt k) = []
 union_of (Book f) (Book s) = merged f s
 
 -- a word and two numbers

@@ -17,7 +17,7 @@ use Rattle.kept.proofs.Tests.{valid}
 use Rattle.kept.proofs.Kept.{keeps_activate}
 use Rattle.kept.proofs.Next.{ok_flags_lem}
 use Rattle.manual.specs.Words.{sw_process_completed}
-use Rattle.manual.specs.Tags.{CID, Status, Curve_ID, Activation_Signature, Reset_PIN1, Activation_Seed, Wallet_Public_Key, Remaining, Signed_Hashes}
+use Rattle.manual.specs.Tags.{CID, Status, CurveID, ActivationSignature, ResetPIN1, ActivationSeed, WalletPublicKey, Remaining, SignedHashes}
 use Rattle.manual.specs.declared.Command.{Command}
 use Rattle.manual.specs.declared.Command.TheVariants.{ReadCard, CreateWallet, CheckWallet, SetPin, Sign, VerifyCard, ValidateCard, PurgeWallet}
 use Rattle.manual.specs.declared.Command.TheVariants.{ReadUserData, WriteUserData, WriteIssuerData, ReadIssuerData, ActivateCard}
@@ -96,12 +96,12 @@ sleeper ReadIssuerData e = record { ins = refl; kinds = λ f v d. refl }
 sleeper ActivateCard e = record { ins = refl; kinds = λ f v d. refl }
 
 -- WHAT READ_CARD TELLS of the seed, up to the activation
-pub seed_among : (f : Face) (b c : Bool) → is_active f ≡ b → is_loaded f ≡ c → among Activation_Seed (fld CID f.front.fixed.cid ∷ read_fields f) ≡ not b
+pub seed_among : (f : Face) (b c : Bool) → is_active f ≡ b → is_loaded f ≡ c → among ActivationSeed (fld CID f.front.fixed.cid ∷ read_fields f) ≡ not b
 seed_among f false c e l = rw e refl
 seed_among f true false e l = rw (e, l) refl
 seed_among f true true e l = rw (e, l) refl
 
-pub seed_first : (f : Face) → is_active f ≡ false → first_of Activation_Seed (fld CID f.front.fixed.cid ∷ read_fields f) ≡ f.front.fixed.seed
+pub seed_first : (f : Face) → is_active f ≡ false → first_of ActivationSeed (fld CID f.front.fixed.cid ∷ read_fields f) ≡ f.front.fixed.seed
 seed_first f e = rw e refl
 
 -- WHAT IS DUE to an activation, and what it asks and answers, on a card that fits its history
@@ -124,7 +124,7 @@ module _ (sh : Sheet) (f : Face) (x : Codes) (h : History) (i : Inv sh (watch f)
     same_wake =
         λ n.
         let z = i.fixed n in
-        asked (question 6 (i.number n) z.curve (val Activation_Signature v ∷ z.cid ∷ z.seed ∷ val Reset_PIN1 v ∷ []) ∷ [])
+        asked (question 6 (i.number n) z.curve (val ActivationSignature v ∷ z.cid ∷ z.seed ∷ val ResetPIN1 v ∷ []) ∷ [])
 
     -- the card was Empty, so READ_CARD tells no more of it
     wake_bytes : f.front.wallet.status ≡ 1 → (done activate_card (matched x v) f v d a).response ≡ wake_response sh h
@@ -134,8 +134,8 @@ module _ (sh : Sheet) (f : Face) (x : Codes) (h : History) (i : Inv sh (watch f)
         λ n.
         let z = i.fixed n in
         written
-        (fld CID z.cid ∷ fld Status (be1 (s n)) ∷ fld Curve_ID (curve_name z.curve) ∷ fld Signed_Hashes (be4 (i.total n))
-        ∷ cond (none n) (fld Wallet_Public_Key (key_of f.front.key) ∷ fld Remaining (be4 f.front.wallet.remaining) ∷ []) [])
+        (fld CID z.cid ∷ fld Status (be1 (s n)) ∷ fld CurveID (curve_name z.curve) ∷ fld SignedHashes (be4 (i.total n))
+        ∷ cond (none n) (fld WalletPublicKey (key_of f.front.key) ∷ fld Remaining (be4 f.front.wallet.remaining) ∷ []) [])
         ++ be2 sw_process_completed
 
     pub wake_due : Passed activate_card (matched x v) f v → Asks (Waking sh h v) (wake_questions sh h v) (asked (activate_card.questions f v d))

@@ -12,7 +12,7 @@ use Rattle.fields.specs.Fields.{View, val, Tagged, among, first_of}
 use Rattle.card.specs.declared.Codes.{Codes}
 use Rattle.card.specs.declared.Face.{Face}
 use Rattle.card.specs.Valid.{ok_face}
-use Rattle.manual.specs.Tags.{Status, Signature, Remaining, Signed_Hashes}
+use Rattle.manual.specs.Tags.{Status, Signature, Remaining, SignedHashes}
 use Rattle.manual.specs.declared.Command.{Command}
 use Rattle.manual.specs.declared.Needs.{Needs}
 use Rattle.manual.specs.Request.{code}
@@ -28,7 +28,7 @@ use Rattle.history.proofs.Seen.{look, Watched, watch, Inv}
 -- what is told of Status, Remaining and Signed_Hashes is what the card after holds; Remaining, of a live wallet only
 pub record Reports (f : Watched) (fs : List Tagged) : Type 0 where
   pub state : among Status fs ≡ true → first_of Status fs ≡ be1 f.wallet.status
-  pub signed : among Signed_Hashes fs ≡ true → first_of Signed_Hashes fs ≡ be4 f.wallet.signed
+  pub signed : among SignedHashes fs ≡ true → first_of SignedHashes fs ≡ be4 f.wallet.signed
   pub remaining : among Remaining fs ≡ true → (first_of Remaining fs ≡ be4 f.wallet.remaining) × (f.wallet.status ≡ 2)
 
 -- the stored counter of a protected card never falls
@@ -61,7 +61,7 @@ module _ (k : Command) (f : Face) (q d a : List ℕ) where
 
 -- FOR THE COMMANDS. Fields with none of these tags
 abbrev counts : ℕ → Bool
-counts t = eqb t Status || (eqb t Signed_Hashes || eqb t Remaining)
+counts t = eqb t Status || (eqb t SignedHashes || eqb t Remaining)
 
 abbrev pub quiet : List Tagged → Bool
 quiet [] = true
@@ -81,7 +81,7 @@ pub quietly : (f : Watched) (fs : List Tagged) → quiet fs ≡ true → Reports
 quietly f fs n =
     record {
       state = λ e. clash e (not_among Status refl fs n);
-      signed = λ e. clash e (not_among Signed_Hashes refl fs n);
+      signed = λ e. clash e (not_among SignedHashes refl fs n);
       remaining = λ e. clash e (not_among Remaining refl fs n);
     }
 

@@ -17,12 +17,12 @@ use Rattle.card.specs.Layout.{cid_size, signature_size, most_hashes, most_pause}
 use Rattle.card.specs.Values.{no_pending, fresh}
 use Rattle.card.specs.Image.{encode, decode}
 use Rattle.card.specs.Valid.{curve_known, ok_flags}
-use Rattle.card.specs.Shape.{Shape_Codes, Shape_Fixed}
+use Rattle.card.specs.Shape.{ShapeCodes, ShapeFixed}
 use Rattle.cards.proofs.Round.{decode_encode, shape_decode, is_card_length}
 use Rattle.cards.proofs.Shape.{shape_fresh}
 use Rattle.kept.proofs.Fresh.{fresh_is_card}
 use Rattle.manual.specs.Words.{sw_process_completed, hash_size, questions_room}
-use Rattle.manual.specs.Tags.{CID, Transaction_Hash, Signature, Remaining, Signed_Hashes}
+use Rattle.manual.specs.Tags.{CID, TransactionHash, Signature, Remaining, SignedHashes}
 use Rattle.manual.specs.declared.Command.{Command}
 use Rattle.manual.specs.declared.Command.TheVariants.{Sign}
 use Rattle.manual.specs.Request.{command}
@@ -32,7 +32,7 @@ use Rattle.manual.specs.Commands.{row}
 use Rattle.manual.specs.Settle.{waiting, State, holding, Call, sent_in, matched, done, paced_to, card_after}
 use Rattle.story.specs.Sums.{Sheet, tap, told_in, is_done, accepted, did, signed_new, wallets}
 use Rattle.story.specs.Buffers.{questions, response, image}
-use Rattle.history.specs.Demands.{Any_Card, But_Wait, Demand2, sign_fields, Event, tap_by, image_by, left, played, Fresh, sign_questions, Demand3}
+use Rattle.history.specs.Demands.{AnyCard, ButWait, Demand2, sign_fields, Event, tap_by, image_by, left, played, Fresh, sign_questions, Demand3}
 use Rattle.history.specs.Facts.{Cost, place, answers_of, nth}
 use Rattle.history.proofs.Choice.{both_true, clash, did_sign}
 use Rattle.history.proofs.Taps.{Passed, carried}
@@ -90,40 +90,40 @@ cost_model m i =
     (λ o _ _. rw (image_is m i o, response_is m i) (sign_cost (decode m.image) i.request i.draw i.answers))
 
 pub sign_costs :
-    (f : Any_Card) → Demand2 f → (m : State) (i : Call) → signed_new (tap_by f m i) ≡ true
+    (f : AnyCard) → Demand2 f → (m : State) (i : Call) → signed_new (tap_by f m i) ≡ true
     → Cost (decode m.image) (decode (image_by f m i)) (count (sent_in i.request))
 sign_costs =
     every (λ f. (m : State) (i : Call) → signed_new (tap_by f m i) ≡ true → Cost (decode m.image) (decode (image_by f m i)) (count (sent_in i.request)))
     cost_model
 
 pub five_hashes :
-    (f : Any_Card) → Demand2 f → (m : State) (i : Call) → signed_new (tap_by f m i) ≡ true
-    → length (val Transaction_Hash (sent_in i.request)) ≡ 5 * hash_size → Cost (decode m.image) (decode (image_by f m i)) 5
+    (f : AnyCard) → Demand2 f → (m : State) (i : Call) → signed_new (tap_by f m i) ≡ true
+    → length (val TransactionHash (sent_in i.request)) ≡ 5 * hash_size → Cost (decode m.image) (decode (image_by f m i)) 5
 five_hashes f h m i e l =
     let n : count (sent_in i.request) ≡ 5 = omega arith in
     subst (Cost (decode m.image) (decode (image_by f m i))) n (sign_costs f h m i e)
 
 -- THE REPEAT costs nothing and changes nothing, but that nothing is held or counted afterwards
 repeat_model :
-    (m : State) (i : Call) → did Sign (tap_by model m i) ≡ true → is_new (sent_in i.request) ≡ false → But_Wait no_pending m.image (image_by model m i)
+    (m : State) (i : Call) → did Sign (tap_by model m i) ≡ true → is_new (sent_in i.request) ≡ false → ButWait no_pending m.image (image_by model m i)
 unfolding accepted
 repeat_model m i e n =
-    by_call (λ z. did Sign (tap i.request (response z)) ≡ true → But_Wait no_pending m.image (image m.image z)) m i
+    by_call (λ z. did Sign (tap i.request (response z)) ≡ true → ButWait no_pending m.image (image m.image z)) m i
     (λ n k e. clash (rw k at e) refl)
     (λ o _ _ y. waits_where m i o (repeat_card (decode m.image) i.request i.draw i.answers (rw (response_is m i) at y) n))
     e
 
 pub repeat_free :
-    (f : Any_Card) → Demand2 f → (m : State) (i : Call) → did Sign (tap_by f m i) ≡ true → is_new (sent_in i.request) ≡ false
-    → But_Wait no_pending m.image (image_by f m i)
+    (f : AnyCard) → Demand2 f → (m : State) (i : Call) → did Sign (tap_by f m i) ≡ true → is_new (sent_in i.request) ≡ false
+    → ButWait no_pending m.image (image_by f m i)
 repeat_free =
     every
-    (λ f. (m : State) (i : Call) → did Sign (tap_by f m i) ≡ true → is_new (sent_in i.request) ≡ false → But_Wait no_pending m.image (image_by f m i))
+    (λ f. (m : State) (i : Call) → did Sign (tap_by f m i) ≡ true → is_new (sent_in i.request) ≡ false → ButWait no_pending m.image (image_by f m i))
     repeat_model
 
 -- A REFUSED COMMAND has used nothing up: no signature, no hash, no counter
 pub refusal_free :
-    (f : Any_Card) → Demand2 f → (m : State) (i : Call) → is_done (f.taps.settle m i).result.word ≡ false
+    (f : AnyCard) → Demand2 f → (m : State) (i : Call) → is_done (f.taps.settle m i).result.word ≡ false
     → ((decode (image_by f m i)).face.front.wallet ≡ (decode m.image).face.front.wallet)
     × ((decode (image_by f m i)).face.front.counters ≡ (decode m.image).face.front.counters)
 refusal_free f h m i e =
@@ -143,7 +143,7 @@ stand :
     → part (written (sign_fields cid a u v) ++ be2 w) (place n) (n * signature_size) ≡ a
 unfolding written each joined
 stand cid a u v w n c l h =
-    let t : List ℕ = tlv Remaining (be4 u) ++ (tlv Signed_Hashes (be4 v) ++ []) in
+    let t : List ℕ = tlv Remaining (be4 u) ++ (tlv SignedHashes (be4 v) ++ []) in
     let e = append_assoc (tlv CID cid) (tlv Signature a ++ t) (be2 w) ∙ ap (λ z. tlv CID cid ++ z) (append_assoc (tlv Signature a) t (be2 w)) in
     let x = length_tlv CID cid (omega arith) in
     let y : length (head_of CID (length cid)) ≡ 2 = length_short CID (length cid) (omega arith) in
@@ -152,7 +152,7 @@ stand cid a u v w n c l h =
     (λ j. part (written (sign_fields cid a u v) ++ be2 w) (sym at j) (sym l j)) ∙ value_at _ (tlv CID cid) 10 Signature a (t ++ be2 w) e z (omega arith)
 
 pub signatures_stand :
-    (f : Any_Card) → Demand2 f → (sh : Sheet) (m : List ℕ) → Fresh sh m → (es : List Event) (i : Call)
+    (f : AnyCard) → Demand2 f → (sh : Sheet) (m : List ℕ) → Fresh sh m → (es : List Event) (i : Call)
     → signed_new (tap_by f (left f (holding m) es) i) ≡ true
     → part (response (f.taps.settle (left f (holding m) es) i)) (place (count (sent_in i.request))) (count (sent_in i.request) * signature_size)
     ≡ i.answers
@@ -168,7 +168,7 @@ signatures_stand f h sh m e es i n =
 -- THE PROVIDER: where the answers are what one made of the questions asked, whoever it is, the signatures told are what it makes of the live wallet's
 -- number, the curve and these hashes, in order
 pub provider_signs :
-    (f : Any_Card) → Demand3 f → (sh : Sheet) (m : List ℕ) → Fresh sh m → (es : List Event) (i : Call) → (provider : List ℕ → List ℕ)
+    (f : AnyCard) → Demand3 f → (sh : Sheet) (m : List ℕ) → Fresh sh m → (es : List Event) (i : Call) → (provider : List ℕ → List ℕ)
     → signed_new (tap_by f (left f (holding m) es) i) ≡ true
     → questions_room ≤ length i.buffers.page
     → i.answers ≡ provider (questions (f.taps.ask (left f (holding m) es) i))
@@ -195,23 +195,23 @@ nth_answer number curve (suc n) l provider s (suc k) h =
     ∙ ap (λ m. provider (question 2 number curve (take hash_size m ∷ []))) (drop-drop (k * hash_size) hash_size l ∙ ap (λ m. drop m l) (sym u))
 
 pub signature_of_hash :
-    (f : Any_Card) → Demand3 f → (sh : Sheet) (m : List ℕ) → Fresh sh m → (es : List Event) (i : Call) (provider : Question → List ℕ)
+    (f : AnyCard) → Demand3 f → (sh : Sheet) (m : List ℕ) → Fresh sh m → (es : List Event) (i : Call) (provider : Question → List ℕ)
     → ((x : Question) → length (provider x) ≡ signature_size) → signed_new (tap_by f (left f (holding m) es) i) ≡ true
     → questions_room ≤ length i.buffers.page
     → ((these : List Question) → questions (f.taps.ask (left f (holding m) es) i) ≡ asked these → i.answers ≡ answers_of provider these)
     → (k : ℕ) → k < count (sent_in i.request)
     → nth signature_size k (val Signature (told_in (response (f.taps.settle (left f (holding m) es) i))))
     ≡ provider
-    (question 2 (wallets (played f (holding m) [] es)) sh.fixed.curve (nth hash_size k (val Transaction_Hash (sent_in i.request)) ∷ []))
+    (question 2 (wallets (played f (holding m) [] es)) sh.fixed.curve (nth hash_size k (val TransactionHash (sent_in i.request)) ∷ []))
 signature_of_hash f h sh m e es i provider s n l a k u =
     let x = (h.next sh m e es i).signs n in
     let v = sent_in i.request in
     ap (nth signature_size k) (x.answers ∙ a _ (x.questions l))
-    ∙ nth_answer (wallets (played f (holding m) [] es)) sh.fixed.curve (count v) (val Transaction_Hash v) provider s k u
+    ∙ nth_answer (wallets (played f (holding m) [] es)) sh.fixed.curve (count v) (val TransactionHash v) provider s k u
 
 -- FRESH CARDS there are: the image of a sheet in its ranges
 pub fresh_image :
-    (sh : Sheet) → Shape_Fixed sh.fixed → Shape_Codes sh.codes → curve_known sh.fixed ≡ true → 1 ≤ sh.fixed.max
+    (sh : Sheet) → ShapeFixed sh.fixed → ShapeCodes sh.codes → curve_known sh.fixed ≡ true → 1 ≤ sh.fixed.max
     → sh.fixed.pause ≤ most_pause → ok_flags sh.flags ≡ true → Fresh sh (encode (fresh sh.fixed sh.flags sh.codes))
 fresh_image sh x k curve max pause flags =
     record {

@@ -12,15 +12,15 @@ use Rattle.card.specs.declared.Face.{Face}
 use Rattle.manual.specs.declared.Command.{Command}
 use Rattle.manual.specs.declared.Command.TheVariants.{ReadCard, CreateWallet, CheckWallet, SetPin, Sign, VerifyCard, ValidateCard, PurgeWallet}
 use Rattle.manual.specs.declared.Command.TheVariants.{ReadUserData, WriteUserData, WriteIssuerData, ReadIssuerData, ActivateCard}
-use Rattle.manual.specs.Tags.{CID, PIN1, PIN2, CVC, New_PIN1, New_PIN2}
+use Rattle.manual.specs.Tags.{CID, PIN1, PIN2, CVC, NewPIN1, NewPIN2}
 use Rattle.manual.specs.Row.{Row}
 use Rattle.manual.specs.Commands.{row}
 use Rattle.manual.specs.Settle.{matched}
-use Rattle.history.specs.Facts.{Same_Field, Same_On}
+use Rattle.history.specs.Facts.{SameField, SameOn}
 use Rattle.history.proofs.Choice.{clash}
 
 -- what a code is held to, by absence and value
-pub same_holds : (t : ℕ) (v w : View) → Same_Field t v w → (code : List ℕ) → holds t v code ≡ holds t w code
+pub same_holds : (t : ℕ) (v w : View) → SameField t v w → (code : List ℕ) → holds t v code ≡ holds t w code
 unfolding has val holds
 same_holds t v w h code = go (v.at t) (w.at t) h.0 h.1
   where
@@ -31,11 +31,11 @@ same_holds t v w h code = go (v.at t) (w.at t) h.0 h.1
     go Absent Absent e i = refl
 
 pub record Reads (r : Row) (v w : View) : Type 0 where
-  pub pin1 : Same_Field PIN1 v w
-  pub cid : r.needs.cid ≡ true → Same_Field CID v w
+  pub pin1 : SameField PIN1 v w
+  pub cid : r.needs.cid ≡ true → SameField CID v w
   pub asks_pin2 : r.pin2 v ≡ r.pin2 w
-  pub pin2 : r.pin2 w ≡ true → Same_Field PIN2 v w
-  pub cvc : r.needs.cvc ≡ true → Same_Field CVC v w
+  pub pin2 : r.pin2 w ≡ true → SameField PIN2 v w
+  pub cvc : r.needs.cvc ≡ true → SameField CVC v w
   pub fields : (f : Face) → r.fields f v ≡ r.fields f w
   pub conditions : (x : Codes) (f : Face) → r.conditions (matched x v) f v ≡ r.conditions (matched x w) f w
   pub questions : (f : Face) (d : List ℕ) → r.questions f v d ≡ r.questions f w d
@@ -45,7 +45,7 @@ pub record Reads (r : Row) (v w : View) : Type 0 where
   pub more : (x : Codes) → r.more (matched x v) ≡ r.more (matched x w)
 
 -- every command reads the tags of its entry alone
-pub reads : (k : Command) (v w : View) → Same_On (row k).reads v w → Reads (row k) v w
+pub reads : (k : Command) (v w : View) → SameOn (row k).reads v w → Reads (row k) v w
 reads ReadCard v w h =
     record {
       pin1 = h.0;
@@ -103,12 +103,12 @@ reads SetPin v w h =
       pin2 = λ _. h.1.1.0;
       cvc = λ _. h.1.1.1.0;
       fields = λ f. rw (new1.1, new2.1);
-      conditions = λ x f. rw (same_holds New_PIN1 v w new1 x.pin1, same_holds New_PIN2 v w new2 x.pin2);
+      conditions = λ x f. rw (same_holds NewPIN1 v w new1 x.pin1, same_holds NewPIN2 v w new2 x.pin2);
       questions = λ f d. refl;
       next = λ f a. refl;
       recode = λ x. rw (new1.1, new2.1);
       fields_out = λ f d a. refl;
-      more = λ x. rw (same_holds New_PIN1 v w new1 x.pin1, same_holds New_PIN2 v w new2 x.pin2);
+      more = λ x. rw (same_holds NewPIN1 v w new1 x.pin1, same_holds NewPIN2 v w new2 x.pin2);
     }
 reads Sign v w h =
     let hashes = h.1.1.1.1.0 in

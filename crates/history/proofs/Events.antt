@@ -3,10 +3,10 @@ use mathlib.Core.Path.{◌≡◌, refl, sym, subst}
 use mathlib.Core.List.{List, [], ◌∷◌, ◌++◌, append_assoc, append-nil}
 use Rattle.manual.specs.Settle.{State}
 use Rattle.story.specs.Sums.{History}
-use Rattle.history.specs.Demands.{Any_Card, Event, leaves, adds, left, played}
+use Rattle.history.specs.Demands.{AnyCard, Event, leaves, adds, left, played}
 
 -- what one event more leaves, and adds to the history
-module _ (f : Any_Card) where
+module _ (f : AnyCard) where
   pub left_more : (s : State) (es : List Event) (e : Event) → left f s (es ++ (e ∷ [])) ≡ leaves f (left f s es) e
   left_more s [] e = refl
   left_more s (x ∷ es) e = left_more (leaves f s x) es e

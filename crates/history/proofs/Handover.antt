@@ -16,14 +16,14 @@ use Rattle.card.specs.Valid.{is_card, is_loaded}
 use Rattle.cards.proofs.Round.{shape_decode, is_card_length, is_card_face}
 use Rattle.kept.proofs.Kept.{holds_none}
 use Rattle.manual.specs.Words.{hash_size, questions_room}
-use Rattle.manual.specs.Tags.{Transaction_Hash, Signature}
+use Rattle.manual.specs.Tags.{TransactionHash, Signature}
 use Rattle.manual.specs.declared.Command.TheVariants.{CreateWallet, Sign, PurgeWallet}
 use Rattle.manual.specs.Row.{Question, question, asked}
 use Rattle.manual.specs.Wallet.{is_new, count}
 use Rattle.manual.specs.Settle.{State, holding, Call, sent_in, paced_to}
 use Rattle.story.specs.Sums.{Sheet, Tap, History, tap, told_in, accepted, did, signed_new, wallets, status, made}
 use Rattle.story.specs.Buffers.{questions, response, image}
-use Rattle.history.specs.Demands.{Any_Card, Demand2, given, Event, tapped, switched_off, tap_by, image_by, adds, Fresh, Demand3}
+use Rattle.history.specs.Demands.{AnyCard, Demand2, given, Event, tapped, switched_off, tap_by, image_by, adds, Fresh, Demand3}
 use Rattle.history.specs.Facts.{Forgotten, answers_of, nth, state_after, history_of, Made, Original}
 use Rattle.history.proofs.Choice.{both_true, clash, one_ins, did_purge}
 use Rattle.history.proofs.Events.{played_more, one_by_one}
@@ -60,7 +60,7 @@ purge_model m i =
     (λ o _ _. rw (image_is m i o, response_is m i) (purge_card (decode m.image) i.request i.draw i.answers))
 
 pub purge_takes :
-    (f : Any_Card) → Demand2 f → (m : State) (i : Call) → did PurgeWallet (tap_by f m i) ≡ true → Forgotten (decode m.image) (decode (image_by f m i))
+    (f : AnyCard) → Demand2 f → (m : State) (i : Call) → did PurgeWallet (tap_by f m i) ≡ true → Forgotten (decode m.image) (decode (image_by f m i))
 purge_takes =
     every (λ f. (m : State) (i : Call) → did PurgeWallet (tap_by f m i) ≡ true → Forgotten (decode m.image) (decode (image_by f m i))) purge_model
 
@@ -75,22 +75,22 @@ made_now t h e =
     let c = one_ins t Sign CreateWallet refl d in
     (rw c, rw (c, one_ins t Sign PurgeWallet refl d, e))
 
-record As_Before (sh : Sheet) (t : Tap) (h : History) : Type 0 where
+record AsBefore (sh : Sheet) (t : Tap) (h : History) : Type 0 where
   state : status sh h ≡ 2
   some : 1 ≤ made h
   wallet : wallets (t ∷ h) ≡ wallets h
   given : given (t ∷ h) ≡ given h
 
-as_before : (sh : Sheet) (t : Tap) (h : History) → status sh (t ∷ h) ≡ 2 → 1 ≤ made (t ∷ h) → signed_new t ≡ false → As_Before sh t h
+as_before : (sh : Sheet) (t : Tap) (h : History) → status sh (t ∷ h) ≡ 2 → 1 ≤ made (t ∷ h) → signed_new t ≡ false → AsBefore sh t h
 as_before sh t h s n e = go (did CreateWallet t) (did PurgeWallet t) refl refl
   where
-    go : (a b : Bool) → did CreateWallet t ≡ a → did PurgeWallet t ≡ b → As_Before sh t h
+    go : (a b : Bool) → did CreateWallet t ≡ a → did PurgeWallet t ≡ b → AsBefore sh t h
     go true b c p = absurd (let z : 1 ≤ 0 = rw c at n in omega arith)
     go false true c p = absurd (not_two sh.flags.reusable (rw (c, p) at s))
     go false false c p = record { state = rw (c, p) at s; some = rw (c, e) at n; wallet = rw c; given = rw (c, p, e) }
 
 -- THE SOURCE of what is given after events es that followed `past`, of any card
-module _ (f : Any_Card) (sh : Sheet) (m : List ℕ) (past : List Event) where
+module _ (f : AnyCard) (sh : Sheet) (m : List ℕ) (past : List Event) where
   abbrev S : List Event → State
   S es = state_after f m (past ++ es)
 
@@ -150,7 +150,7 @@ module _ (f : Any_Card) (sh : Sheet) (m : List ℕ) (past : List Event) where
   sourced none = one_by_one Sourced (λ s n. absurd (none s)) sourced_more
 
 -- WHAT A REPEAT TELLS, where no wallet lived after the events `past`
-module _ (f : Any_Card) (d : Demand3 f) (sh : Sheet) (m : List ℕ) (o : Fresh sh m) where
+module _ (f : AnyCard) (d : Demand3 f) (sh : Sheet) (m : List ℕ) (o : Fresh sh m) where
   original :
       (past es : List Event) (i : Call) → (status sh (history_of f m (past ++ [])) ≡ 2 → ⊥) → did Sign (tap_by f (state_after f m (past ++ es)) i) ≡ true
       → is_new (sent_in i.request) ≡ false
@@ -186,9 +186,9 @@ module _ (f : Any_Card) (d : Demand3 f) (sh : Sheet) (m : List ℕ) (o : Fresh s
       → (k : ℕ) → k < count (sent_in x.made.call.request)
       → nth signature_size k signatures
       ≡ provider
-      (question 2 (wallets (history_of f m (past ++ es))) sh.fixed.curve (nth hash_size k (val Transaction_Hash (sent_in x.made.call.request)) ∷ []))
+      (question 2 (wallets (history_of f m (past ++ es))) sh.fixed.curve (nth hash_size k (val TransactionHash (sent_in x.made.call.request)) ∷ []))
   repeated_hash {past} {es} {signatures} x provider s l a k u =
-      let v = val Transaction_Hash (sent_in x.made.call.request) in
+      let v = val TransactionHash (sent_in x.made.call.request) in
       ap (nth signature_size k) (x.told ∙ x.made.told)
       ∙ signature_of_hash f d sh m o (past ++ x.made.before) x.made.call provider s x.made.signed l a k u
       ∙ ap (λ n. provider (question 2 n sh.fixed.curve (nth hash_size k v ∷ []))) x.made.wallet

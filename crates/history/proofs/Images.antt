@@ -24,7 +24,7 @@ use Rattle.manual.specs.Settle.{card_after, Settled, settled, settled_of, lent, 
 use Rattle.manual.specs.Settle.{Off, off_by, card_off, powered_off}
 use Rattle.story.specs.Sums.{Sheet, History, tap}
 use Rattle.story.specs.Buffers.{questions, response, image, image_off}
-use Rattle.history.specs.Demands.{Any_Card, stop, ask_stop, settle_stop, Demand2}
+use Rattle.history.specs.Demands.{AnyCard, stop, ask_stop, settle_stop, Demand2}
 use Rattle.history.specs.Demands.{Event, tapped, switched_off, tap_by, image_by, left, played, Fresh, OneMore, Demand3}
 use Rattle.history.proofs.Choice.{by_cases, clash}
 use Rattle.history.proofs.Taps.{Same, by_tap}
@@ -33,7 +33,7 @@ use Rattle.history.proofs.Cards.{after, xs, shape_waiting, shape_after, Fits, fi
 use Rattle.history.proofs.Next.{one_more, no_more}
 
 -- THE MANUAL as a card
-abbrev pub model : Any_Card
+abbrev pub model : AnyCard
 model = record { taps = record { ask = asked_for; settle = settled }; power_off = powered_off }
 
 -- numbers other than 0 have no response, and leave the card
@@ -274,7 +274,7 @@ pub model_demand2 : Demand2 model
 model_demand2 = record { asks = λ m i. refl; settles = λ m i. refl; turns_off = λ m nxt. refl }
 
 -- a card that meets demand 2 is the manual
-pub is_model : (f : Any_Card) → Demand2 f → model ≡ f
+pub is_model : (f : AnyCard) → Demand2 f → model ≡ f
 is_model f h =
     λ j. record {
       taps = record { ask = λ m i. sym (h.asks m i) j; settle = λ m i. sym (h.settles m i) j };

@@ -14,8 +14,8 @@ use Rattle.card.specs.declared.Card.{Card}
 use Rattle.card.specs.Layout.{top16}
 use Rattle.card.specs.Values.{u16, no_pending, with_pending, last_of}
 use Rattle.manual.specs.Words.{sw_process_completed, questions_room}
-use Rattle.manual.specs.Tags.{CID, CVC, Status, Challenge, Activation_Seed, Transaction_Hash}
-use Rattle.manual.specs.Tags.{Signature, Remaining, Signed_Hashes}
+use Rattle.manual.specs.Tags.{CID, CVC, Status, Challenge, ActivationSeed, TransactionHash}
+use Rattle.manual.specs.Tags.{Signature, Remaining, SignedHashes}
 use Rattle.manual.specs.declared.Command.{Command}
 use Rattle.manual.specs.declared.Command.TheVariants.{ReadCard, CreateWallet, CheckWallet, Sign, ActivateCard}
 use Rattle.manual.specs.Request.{code, command}
@@ -26,7 +26,7 @@ use Rattle.manual.specs.Commands.{row}
 use Rattle.manual.specs.Settle.{Call, sent_in, matched, fields_of, done, paced_to}
 use Rattle.facts.proofs.Facts.{Small, small_shape, facts, writes}
 use Rattle.story.specs.Sums.{Sheet, History, tap, told_in, accepted, ins, did, signed_new, active, status, wallets, ever_purged, made, total, uses_wallet}
-use Rattle.history.specs.Demands.{sign_fields, sign_response, Entitled, New_Sign, sign_questions, Asks, nothing, due, all_kinds, Poses, is_card_kind, may_ask}
+use Rattle.history.specs.Demands.{sign_fields, sign_response, Entitled, NewSign, sign_questions, Asks, nothing, due, all_kinds, Poses, is_card_kind, may_ask}
 use Rattle.history.specs.Demands.{given, Waking, wake_questions, while_asleep, is_wake_kind, Rightful, Repeated, Woken, OneMore}
 use Rattle.history.proofs.Choice.{both_true, or_false, or_other, clash, did_read, did_sign, did_activate}
 use Rattle.history.proofs.Choice.{listed_ins, by_ins, may_ask_lem, may_ask_purged, uses_by}
@@ -123,8 +123,8 @@ module _ (sh : Sheet) (c : Card) (h : History) (i : Fits sh c h) (t : Call) wher
   state_by : accepted r ≡ true → has Status (told_in r) ≡ true → val Status (told_in r) ≡ be1 (status sh (tap q r ∷ h))
   state_by e z = val_by Status e ∙ ((reports_by e).state (sym (has_by Status e) ∙ z) ∙ ap be1 (inv_after e).status)
 
-  signed_by : accepted r ≡ true → has Signed_Hashes (told_in r) ≡ true → val Signed_Hashes (told_in r) ≡ be4 (total (tap q r ∷ h))
-  signed_by e z = val_by Signed_Hashes e ∙ ((reports_by e).signed (sym (has_by Signed_Hashes e) ∙ z) ∙ ap be4 (inv_after e).total)
+  signed_by : accepted r ≡ true → has SignedHashes (told_in r) ≡ true → val SignedHashes (told_in r) ≡ be4 (total (tap q r ∷ h))
+  signed_by e z = val_by SignedHashes e ∙ ((reports_by e).signed (sym (has_by SignedHashes e) ∙ z) ∙ ap be4 (inv_after e).total)
 
   -- every response begins with CID
   cid_by : accepted r ≡ true → (rest : List ℕ) × (r ≡ tlv CID sh.fixed.cid ++ rest)
@@ -153,7 +153,7 @@ module _ (sh : Sheet) (c : Card) (h : History) (i : Fits sh c h) (t : Call) wher
             rw (← z.fixed) (or_false (not (asks_cvc j f)) (holds CVC v f.front.fixed.cvc) p.cvc (ap not w));
       }
 
-  new_sign : Passed sign m f v → is_new v ≡ true → New_Sign sh h v
+  new_sign : Passed sign m f v → is_new v ≡ true → NewSign sh h v
   new_sign p n =
       let z = needed m f v p in
       let b : f.front.wallet.remaining + made h ≡ sh.fixed.max = i.inv.balance (sym i.inv.status ∙ z.alive) in
@@ -165,8 +165,8 @@ module _ (sh : Sheet) (c : Card) (h : History) (i : Fits sh c h) (t : Call) wher
       }
 
   -- the wallet's number and the curve are those of the history and the sheet
-  same_questions : hash_questions f.front.wallet.number f.front.fixed.curve (count v) (val Transaction_Hash v) ≡ sign_questions sh h v
-  same_questions = λ n. hash_questions (i.inv.number n) (i.inv.fixed n).curve (count v) (val Transaction_Hash v)
+  same_questions : hash_questions f.front.wallet.number f.front.fixed.curve (count v) (val TransactionHash v) ≡ sign_questions sh h v
+  same_questions = λ n. hash_questions (i.inv.number n) (i.inv.fixed n).curve (count v) (val TransactionHash v)
 
   -- of a tap of this command: nothing, or what is due
   asks_by :
@@ -178,7 +178,7 @@ module _ (sh : Sheet) (c : Card) (h : History) (i : Fits sh c h) (t : Call) wher
       subst (λ l. Passed (row l) m f v → Asks Due these (asked ((row l).questions f v d))) (sym e) may in
       by_tap (λ _ y. Asks Due these (asked y)) m f q d a (λ s z. nothing refl) (λ p s z. by p) (λ p g. by p)
 
-  sign_due : (b : Bool) → is_new v ≡ b → Passed sign m f v → Asks (New_Sign sh h v) (sign_questions sh h v) (asked (sign.questions f v d))
+  sign_due : (b : Bool) → is_new v ≡ b → Passed sign m f v → Asks (NewSign sh h v) (sign_questions sh h v) (asked (sign.questions f v d))
   unfolding asked each_asked joined
   sign_due true n p = rw n (due (new_sign p n) (ap asked same_questions))
   sign_due false n p = rw n (nothing refl)
@@ -281,16 +281,16 @@ module _ (sh : Sheet) (c : Card) (h : History) (i : Fits sh c h) (t : Call) wher
   -- what READ_CARD tells of the seed
   seed_by :
       did ReadCard (tap q r) ≡ true
-      → (has Activation_Seed (told_in r) ≡ not (eqb (active sh h) 1)) × (eqb (active sh h) 1 ≡ false → val Activation_Seed (told_in r) ≡ sh.fixed.seed)
+      → (has ActivationSeed (told_in r) ≡ not (eqb (active sh h) 1)) × (eqb (active sh h) 1 ≡ false → val ActivationSeed (told_in r) ≡ sh.fixed.seed)
   seed_by e =
       let y = did_read (tap q r) e in
       let tells : (n : ℕ) → first_of n (fields_of (row k) g v d a) ≡ first_of n (fields_of read_card f v d a) =
       λ n. ap (λ j. first_of n (fields_of (row j) ((row j).next f v a) v d a)) y.1 in (
-        has_by Activation_Seed y.0
-            ∙ ap (λ j. among Activation_Seed (fields_of (row j) ((row j).next f v a) v d a)) y.1
+        has_by ActivationSeed y.0
+            ∙ ap (λ j. among ActivationSeed (fields_of (row j) ((row j).next f v a) v d a)) y.1
             ∙ seed_among f (is_active f) (is_loaded f) refl refl
             ∙ ap not (sym (awake i.inv refl)),
-        λ o. val_by Activation_Seed y.0 ∙ tells Activation_Seed ∙ seed_first f (asleep_face sh f c.codes h i.inv o) ∙ ap (λ x. x.seed) i.inv.fixed,
+        λ o. val_by ActivationSeed y.0 ∙ tells ActivationSeed ∙ seed_first f (asleep_face sh f c.codes h i.inv o) ∙ ap (λ x. x.seed) i.inv.fixed,
       )
 
   -- a card that is not activated: its three commands, and its one kind
@@ -313,7 +313,7 @@ module _ (sh : Sheet) (c : Card) (h : History) (i : Fits sh c h) (t : Call) wher
 
   -- WHAT IS ASKED, whatever the response: x is the questions, or none
   module _ (x : List ℕ) (some : (P : List ℕ → Type 0) → P [] → P (asked (xs c q d)) → P x) where
-    sign_asks : ins q ≡ code Sign → Asks (New_Sign sh h v) (sign_questions sh h v) x
+    sign_asks : ins q ≡ code Sign → Asks (NewSign sh h v) (sign_questions sh h v) x
     sign_asks e = some (Asks _ _) (nothing refl) (asks_by Sign _ _ (by_ins Sign refl q e) (sign_due (is_new v) refl))
 
     make_asks : ins q ≡ code CreateWallet → Asks (Entitled sh h v 1 true) (question 1 (wallets h + 1) sh.fixed.curve [] ∷ []) x

@@ -30,8 +30,8 @@ use Rattle.manual.specs.Settle.{State, holding, Call, sent_in, matched, judged_b
 use Rattle.manual.specs.Settle.{Settled, settled, settled_of, outcome, lent, card_off, powered_off}
 use Rattle.story.specs.Sums.{tap, is_done, accepted, did}
 use Rattle.story.specs.Buffers.{response, image, image_off}
-use Rattle.history.specs.Demands.{Any_Card, is_refusal, settle_stop, Demand2, Event, tapped, switched_off, tap_by, image_by, left}
-use Rattle.history.specs.Facts.{Refused, Note_Up_To, note_counter, protected}
+use Rattle.history.specs.Demands.{AnyCard, is_refusal, settle_stop, Demand2, Event, tapped, switched_off, tap_by, image_by, left}
+use Rattle.history.specs.Facts.{Refused, NoteUpTo, note_counter, protected}
 use Rattle.history.specs.Waiting.{wait_of}
 use Rattle.history.specs.Wrong.{old_rows}
 use Rattle.history.specs.Wrong.{judged_by as rows_judge}
@@ -76,7 +76,7 @@ result_is : (s : Said) (c : Card) (out nxt : List ℕ) → s.number ≡ 0 → (l
 unfolding lent
 result_is s c out nxt e = rw e refl
 
-old_model : (m : State) (i : Call) → protected m.image ≡ true → Note_Up_To (note_counter m.image) i → Refused model m i
+old_model : (m : State) (i : Call) → protected m.image ≡ true → NoteUpTo (note_counter m.image) i → Refused model m i
 unfolding settled settled_of accepted
 old_model m i g n =
     let o = old_card (decode m.image) i.request i.draw i.answers g (by_ins WriteIssuerData refl i.request n.command) n.counter in
@@ -91,8 +91,8 @@ old_model m i g n =
     }
 
 -- A NOTE WHOSE COUNTER IS NOT ABOVE THE STORED ONE is refused, or has to wait, and the stored one stays
-pub old_note : (f : Any_Card) → Demand2 f → (m : State) (i : Call) → protected m.image ≡ true → Note_Up_To (note_counter m.image) i → Refused f m i
-old_note = every (λ f. (m : State) (i : Call) → protected m.image ≡ true → Note_Up_To (note_counter m.image) i → Refused f m i) old_model
+pub old_note : (f : AnyCard) → Demand2 f → (m : State) (i : Call) → protected m.image ≡ true → NoteUpTo (note_counter m.image) i → Refused f m i
+old_note = every (λ f. (m : State) (i : Call) → protected m.image ≡ true → NoteUpTo (note_counter m.image) i → Refused f m i) old_model
 
 -- A NOTE THAT IS RIGHT IN ALL BUT ITS COUNTER, so that the old practice card took it, gets 6985 by check 12, and nothing else, where it need not wait
 last_fails :
@@ -141,7 +141,7 @@ module _ (c : Card) (q d a : List ℕ) where
   late_card z w = rw (z, w, z) refl
 
 pub late_note :
-    (f : Any_Card) → Demand2 f → (s : State) (i : Call) → protected s.image ≡ true → Note_Up_To (note_counter s.image) i → settle_stop s i ≡ 0
+    (f : AnyCard) → Demand2 f → (s : State) (i : Call) → protected s.image ≡ true → NoteUpTo (note_counter s.image) i → settle_stop s i ≡ 0
     → wait_of (decode s.image) i.request ≡ 0 → {k : Command} → rows_judge old_rows (decode s.image) i.request ≡ Pass k
     → (f.taps.settle s i).result ≡ outcome 0 12 sw_invalid_status 2
 unfolding settled_of lent
@@ -215,7 +215,7 @@ stored_model m i g =
 -- FOR GOOD: after a note with counter n was accepted, and any calls since, every note with a counter up to n is refused
 guarded_model :
     (m : State) (i : Call) (es : List Event) (j : Call) → protected m.image ≡ true → did WriteIssuerData (tap_by model m i) ≡ true
-    → Note_Up_To (sent_counter (sent_in i.request)) j → Refused model (left model (holding (image_by model m i)) es) j
+    → NoteUpTo (sent_counter (sent_in i.request)) j → Refused model (left model (holding (image_by model m i)) es) j
 guarded_model m i es j g e n =
     let y : protected (image_by model m i) ≡ true = still_protected (climbs_call m i g) g in
     let z = climbs_all (holding (image_by model m i)) es y in
@@ -224,11 +224,11 @@ guarded_model m i es j g e n =
     (record { command = n.command; counter = omega (arith, s, z.counter, n.counter) })
 
 pub notes_guarded :
-    (f : Any_Card) → Demand2 f → (m : State) (i : Call) (es : List Event) (j : Call) → protected m.image ≡ true → did WriteIssuerData (tap_by f m i) ≡ true
-    → Note_Up_To (sent_counter (sent_in i.request)) j → Refused f (left f (holding (image_by f m i)) es) j
+    (f : AnyCard) → Demand2 f → (m : State) (i : Call) (es : List Event) (j : Call) → protected m.image ≡ true → did WriteIssuerData (tap_by f m i) ≡ true
+    → NoteUpTo (sent_counter (sent_in i.request)) j → Refused f (left f (holding (image_by f m i)) es) j
 notes_guarded =
     every
     (λ f.
     (m : State) (i : Call) (es : List Event) (j : Call) → protected m.image ≡ true → did WriteIssuerData (tap_by f m i) ≡ true
-    → Note_Up_To (sent_counter (sent_in i.request)) j → Refused f (left f (holding (image_by f m i)) es) j)
+    → NoteUpTo (sent_counter (sent_in i.request)) j → Refused f (left f (holding (image_by f m i)) es) j)
     guarded_model

@@ -21,8 +21,8 @@ use Rattle.manual.specs.Commands.{row}
 use Rattle.manual.specs.Settle.{State, Call, ask_call, sent_in, matched, Said, done, card_after, Posed}
 use Rattle.manual.specs.Settle.{settled, settled_of, outcome, lent, asked_for, asked_of, Settled}
 use Rattle.story.specs.Sums.{is_done}
-use Rattle.history.specs.Demands.{Any_Card, ask_stop, settle_stop, check_word, is_refusal, Demand2}
-use Rattle.history.specs.Facts.{checks_at, First_Fails, All_Hold, Reasoned, Asks_Issuer, note, activation, Said_No, Alike, alike, thirteen}
+use Rattle.history.specs.Demands.{AnyCard, ask_stop, settle_stop, check_word, is_refusal, Demand2}
+use Rattle.history.specs.Facts.{checks_at, FirstFails, AllHold, Reasoned, AsksIssuer, note, activation, SaidNo, Alike, alike, thirteen}
 use Rattle.history.specs.Waiting.{wait_of}
 use Rattle.history.proofs.Choice.{both_true, clash}
 use Rattle.history.proofs.Delay.{Delayed}
@@ -32,7 +32,7 @@ use Rattle.history.proofs.Images.{asked_at, settled_at, looked, looked_ask, both
 use Rattle.history.proofs.Theorems.{every}
 
 -- THE FIRST CHECK TO FAIL is one
-first_one : {m n : ℕ} {rs : List Rule} → First_Fails m rs → First_Fails n rs → m ≡ n
+first_one : {m n : ℕ} {rs : List Rule} → FirstFails m rs → FirstFails n rs → m ≡ n
 first_one {m} {n} x y = go (leb m n) (leb n m) refl refl
   where
     go : (a b : Bool) → leb m n ≡ a → leb n m ≡ b → m ≡ n
@@ -52,7 +52,7 @@ byte_0 (x ∷ y ∷ ys) e n =
 
 -- in answer to a note or an activation
 record No (k : Command) (a : List ℕ) : Type 0 where
-  asks : Asks_Issuer k
+  asks : AsksIssuer k
   byte : a ≡ 0 ∷ []
 
 unconfirmed : (k : Command) (f : Face) (v : View) (d a : List ℕ) → shaped ((row k).questions f v d) a ≡ true → (row k).confirmed a ≡ false → No k a
@@ -71,7 +71,7 @@ unconfirmed WriteIssuerData f v d a y e = record { asks = note; byte = byte_0 a 
 unconfirmed ReadIssuerData f v d a y e = clash refl e
 unconfirmed ActivateCard f v d a y e = record { asks = activation; byte = byte_0 a y e }
 
-no_to : {k : Command} → Asks_Issuer k → (row k).confirmed (0 ∷ []) ≡ false
+no_to : {k : Command} → AsksIssuer k → (row k).confirmed (0 ∷ []) ≡ false
 no_to note = refl
 no_to activation = refl
 
@@ -86,8 +86,8 @@ module _ (s : State) (i : Call) where
   x = matched (decode s.image).codes (sent_in i.request)
 
   said_no :
-      All_Hold (checks_at s i) → shaped ((row k).questions f (sent_in i.request) i.draw) i.answers ≡ true
-      → (row k).confirmed i.answers ≡ false → Said_No s i
+      AllHold (checks_at s i) → shaped ((row k).questions f (sent_in i.request) i.draw) i.answers ≡ true
+      → (row k).confirmed i.answers ≡ false → SaidNo s i
   said_no h y n =
       let z = unconfirmed k f (sent_in i.request) i.draw i.answers y n in
       record { others = h; issuer = z.asks; shape = y; no = z.byte }
@@ -98,18 +98,18 @@ module _ (s : State) (i : Call) where
 
   -- THE RESULT of a call whose card is looked at: by the first check to fail, a pause, or where all hold
   module _
-      (P : Outcome → Type 0) (no_way : (n w l : ℕ) → is_refusal n w ≡ true → First_Fails n (checks_at s i) → P (outcome 0 n w l))
+      (P : Outcome → Type 0) (no_way : (n w l : ℕ) → is_refusal n w ≡ true → FirstFails n (checks_at s i) → P (outcome 0 n w l))
       (waits : (t l : ℕ) → Delayed (row k) x f i.request t → P (outcome 0 0 sw_need_pause l)) where
-    asked_by : (All_Hold (checks_at s i) → (l : ℕ) → P (outcome 0 0 sw_process_completed l)) → P (asked_at s i).result
+    asked_by : (AllHold (checks_at s i) → (l : ℕ) → P (outcome 0 0 sw_process_completed l)) → P (asked_at s i).result
     unfolding asked_of
     asked_by yes_way =
         by_outcome (λ _ n w _. (l : ℕ) → P (outcome 0 n w l)) x f i.request i.draw i.answers
         (λ n w h l. no_way n w l h.word h.first) (λ t h l. waits t l h) (λ h _. yes_way h.all) (λ h _ _. yes_way h.all) (λ h _ _. yes_way h.all) _
 
     settled_by :
-        (All_Hold (checks_at s i) → shaped ((row k).questions f (sent_in i.request) i.draw) i.answers ≡ false → P (outcome 4 0 0 0))
-        → (Said_No s i → P (outcome 0 13 sw_error_processing_command 2))
-        → (All_Hold (checks_at s i) → (row k).confirmed i.answers ≡ true → (w l : ℕ) → is_done w ≡ true → P (outcome 0 0 w l)) → P (settled_at s i).result
+        (AllHold (checks_at s i) → shaped ((row k).questions f (sent_in i.request) i.draw) i.answers ≡ false → P (outcome 4 0 0 0))
+        → (SaidNo s i → P (outcome 0 13 sw_error_processing_command 2))
+        → (AllHold (checks_at s i) → (row k).confirmed i.answers ≡ true → (w l : ℕ) → is_done w ≡ true → P (outcome 0 0 w l)) → P (settled_at s i).result
     unfolding settled_of lent done
     settled_by four thirteenth yes_way =
         by_outcome (λ z _ _ _. P (result_of z)) x f i.request i.draw i.answers
@@ -127,7 +127,7 @@ module _ (s : State) (i : Call) where
       (λ n w h. alike refl) (λ t h. alike refl) (λ h _. alike refl) (λ h _ _. thirteen refl refl) (λ h _ _. alike refl)
 
   -- n fails first, and the request need not wait if that is after check 10: then it does not
-  goes_on_lem : (n : ℕ) → First_Fails n (checks_at s i) → (11 ≤ n → wait_of (decode s.image) i.request ≡ 0) → (t : ℕ) → Delayed (row k) x f i.request t → ⊥
+  goes_on_lem : (n : ℕ) → FirstFails n (checks_at s i) → (11 ≤ n → wait_of (decode s.image) i.request ≡ 0) → (t : ℕ) → Delayed (row k) x f i.request t → ⊥
   goes_on_lem n h prompt t d = go (leb 11 n) refl
     where
       go : (b : Bool) → leb 11 n ≡ b → ⊥
@@ -137,15 +137,15 @@ module _ (s : State) (i : Call) where
 -- ask and settle, whatever they are given: numbers other than 0 have no reason
 asked_cases :
     (P : Outcome → Type 0) (s : State) (i : Call) → ((n : ℕ) → eqb n 0 ≡ false → P (outcome n 0 0 0))
-    → ((n w l : ℕ) → is_refusal n w ≡ true → First_Fails n (checks_at s i) → P (outcome 0 n w l)) → ((l : ℕ) → P (outcome 0 0 sw_need_pause l))
+    → ((n w l : ℕ) → is_refusal n w ≡ true → FirstFails n (checks_at s i) → P (outcome 0 n w l)) → ((l : ℕ) → P (outcome 0 0 sw_need_pause l))
     → ((l : ℕ) → P (outcome 0 0 sw_process_completed l)) → P (asked_for s i).result
 asked_cases P s i stopped no_way waits yes_way =
     by_ask (λ (z : Posed). P z.result) s i stopped (asked_by s i P no_way (λ t l _. waits l) (λ _. yes_way))
 
 settled_cases :
     (P : Outcome → Type 0) (s : State) (i : Call) → ((n : ℕ) → eqb n 0 ≡ false → P (outcome n 0 0 0))
-    → ((n w l : ℕ) → is_refusal n w ≡ true → First_Fails n (checks_at s i) → P (outcome 0 n w l)) → ((l : ℕ) → P (outcome 0 0 sw_need_pause l))
-    → (Said_No s i → P (outcome 0 13 sw_error_processing_command 2))
+    → ((n w l : ℕ) → is_refusal n w ≡ true → FirstFails n (checks_at s i) → P (outcome 0 n w l)) → ((l : ℕ) → P (outcome 0 0 sw_need_pause l))
+    → (SaidNo s i → P (outcome 0 13 sw_error_processing_command 2))
     → ((w l : ℕ) → is_done w ≡ true → P (outcome 0 0 w l)) → P (settled s i).result
 settled_cases P s i stopped no_way waits thirteenth yes_way =
     by_call (λ (z : Settled). P z.result) s i stopped
@@ -169,12 +169,12 @@ carried_out w l e = record { none = rw e refl; word = λ z _. clash refl z; four
 paused : (l : ℕ) → Reasoned (outcome 0 0 sw_need_pause l)
 paused l = record { none = refl; word = λ z _. clash refl z; four = λ z. absurd (omega arith) }
 
-pub asked_reasoned : (f : Any_Card) → Demand2 f → (s : State) (i : Call) → Reasoned (f.taps.ask s i).result
+pub asked_reasoned : (f : AnyCard) → Demand2 f → (s : State) (i : Call) → Reasoned (f.taps.ask s i).result
 asked_reasoned =
     every (λ f. (s : State) (i : Call) → Reasoned (f.taps.ask s i).result)
     (λ s i. asked_cases Reasoned s i numbered (λ n w l e _. refused_by n w l e) paused (λ l. carried_out sw_process_completed l refl))
 
-pub settled_reasoned : (f : Any_Card) → Demand2 f → (s : State) (i : Call) → Reasoned (f.taps.settle s i).result
+pub settled_reasoned : (f : AnyCard) → Demand2 f → (s : State) (i : Call) → Reasoned (f.taps.settle s i).result
 settled_reasoned =
     every (λ f. (s : State) (i : Call) → Reasoned (f.taps.settle s i).result)
     (λ s i.
@@ -184,38 +184,38 @@ settled_reasoned =
 
 -- REASON n OF 1 TO 12: every check before n holds of this card and request, and n does not
 pub asked_first :
-    (f : Any_Card) → Demand2 f → (s : State) (i : Call) (n : ℕ) → 1 ≤ n → (f.taps.ask s i).result.reason ≡ n → First_Fails n (checks_at s i)
+    (f : AnyCard) → Demand2 f → (s : State) (i : Call) (n : ℕ) → 1 ≤ n → (f.taps.ask s i).result.reason ≡ n → FirstFails n (checks_at s i)
 asked_first =
-    every (λ f. (s : State) (i : Call) (n : ℕ) → 1 ≤ n → (f.taps.ask s i).result.reason ≡ n → First_Fails n (checks_at s i))
+    every (λ f. (s : State) (i : Call) (n : ℕ) → 1 ≤ n → (f.taps.ask s i).result.reason ≡ n → FirstFails n (checks_at s i))
     (λ s i n h.
-    asked_cases (λ r. r.reason ≡ n → First_Fails n (checks_at s i)) s i
+    asked_cases (λ r. r.reason ≡ n → FirstFails n (checks_at s i)) s i
     (λ _ _ e. absurd (omega arith))
-    (λ m w l _ x e. subst (λ j. First_Fails j (checks_at s i)) e x)
+    (λ m w l _ x e. subst (λ j. FirstFails j (checks_at s i)) e x)
     (λ l e. absurd (omega arith))
     (λ l e. absurd (omega arith)))
 
 pub settled_first :
-    (f : Any_Card) → Demand2 f → (s : State) (i : Call) (n : ℕ) → 1 ≤ n → n ≤ 12 → (f.taps.settle s i).result.reason ≡ n → First_Fails n (checks_at s i)
+    (f : AnyCard) → Demand2 f → (s : State) (i : Call) (n : ℕ) → 1 ≤ n → n ≤ 12 → (f.taps.settle s i).result.reason ≡ n → FirstFails n (checks_at s i)
 settled_first =
-    every (λ f. (s : State) (i : Call) (n : ℕ) → 1 ≤ n → n ≤ 12 → (f.taps.settle s i).result.reason ≡ n → First_Fails n (checks_at s i))
+    every (λ f. (s : State) (i : Call) (n : ℕ) → 1 ≤ n → n ≤ 12 → (f.taps.settle s i).result.reason ≡ n → FirstFails n (checks_at s i))
     (λ s i n h g.
-    settled_cases (λ r. r.reason ≡ n → First_Fails n (checks_at s i)) s i
+    settled_cases (λ r. r.reason ≡ n → FirstFails n (checks_at s i)) s i
     (λ _ _ e. absurd (omega arith))
-    (λ m w l _ x e. subst (λ j. First_Fails j (checks_at s i)) e x)
+    (λ m w l _ x e. subst (λ j. FirstFails j (checks_at s i)) e x)
     (λ l e. absurd (omega arith))
     (λ _ e. absurd (omega arith))
     (λ w l _ e. absurd (omega arith)))
 
 -- and the first check to fail is the reason, unless the request has to wait after check 10
 pub first_asked :
-    (f : Any_Card) → Demand2 f → (s : State) (i : Call) (n : ℕ) → ask_stop s i ≡ 0 → First_Fails n (checks_at s i)
+    (f : AnyCard) → Demand2 f → (s : State) (i : Call) (n : ℕ) → ask_stop s i ≡ 0 → FirstFails n (checks_at s i)
     → (11 ≤ n → wait_of (decode s.image) i.request ≡ 0) → (f.taps.ask s i).result.reason ≡ n
 first_asked f d s i n e h p =
     ap (λ y. y.result.reason) (d.asks s i ∙ looked_ask s i e)
     ∙ asked_by s i (λ r. r.reason ≡ n) (λ m w l _ x. first_one x h) (λ t l x. absurd (goes_on_lem s i n h p t x)) (λ g l. clash (g n) h.fails)
 
 pub first_settled :
-    (f : Any_Card) → Demand2 f → (s : State) (i : Call) (n : ℕ) → settle_stop s i ≡ 0 → First_Fails n (checks_at s i)
+    (f : AnyCard) → Demand2 f → (s : State) (i : Call) (n : ℕ) → settle_stop s i ≡ 0 → FirstFails n (checks_at s i)
     → (11 ≤ n → wait_of (decode s.image) i.request ≡ 0) → (f.taps.settle s i).result.reason ≡ n
 first_settled f d s i n e h p =
     ap (λ y. y.result.reason) (d.settles s i ∙ looked s i e)
@@ -223,11 +223,11 @@ first_settled f d s i n e h p =
     (λ g _. clash (g n) h.fails) (λ y. clash (y.others n) h.fails) (λ g _ w l _. clash (g n) h.fails)
 
 -- REASON 13: all twelve hold, the answers have their shape, and the issuer said no; and where that is so, and the request need not wait, the reason is 13
-pub settled_thirteen : (f : Any_Card) → Demand2 f → (s : State) (i : Call) → (f.taps.settle s i).result.reason ≡ 13 → Said_No s i
+pub settled_thirteen : (f : AnyCard) → Demand2 f → (s : State) (i : Call) → (f.taps.settle s i).result.reason ≡ 13 → SaidNo s i
 settled_thirteen =
-    every (λ f. (s : State) (i : Call) → (f.taps.settle s i).result.reason ≡ 13 → Said_No s i)
+    every (λ f. (s : State) (i : Call) → (f.taps.settle s i).result.reason ≡ 13 → SaidNo s i)
     (λ s i.
-    settled_cases (λ r. r.reason ≡ 13 → Said_No s i) s i
+    settled_cases (λ r. r.reason ≡ 13 → SaidNo s i) s i
     (λ _ _ e. absurd (omega arith))
     (λ n w l h _ e. absurd (omega (arith, (in_range n w h).1)))
     (λ l e. absurd (omega arith))
@@ -235,7 +235,7 @@ settled_thirteen =
     (λ w l _ e. absurd (omega arith)))
 
 pub thirteen_settled :
-    (f : Any_Card) → Demand2 f → (s : State) (i : Call) → settle_stop s i ≡ 0 → wait_of (decode s.image) i.request ≡ 0 → Said_No s i
+    (f : AnyCard) → Demand2 f → (s : State) (i : Call) → settle_stop s i ≡ 0 → wait_of (decode s.image) i.request ≡ 0 → SaidNo s i
     → (f.taps.settle s i).result.reason ≡ 13
 thirteen_settled f d s i e p y =
     let no : (row (command i.request)).confirmed i.answers ≡ false = ap (row (command i.request)).confirmed y.no ∙ no_to y.issuer in
@@ -245,7 +245,7 @@ thirteen_settled f d s i e p y =
 
 -- ASK AND SETTLE say the same reason, but where settle says 13 and ask 0
 pub reasons_alike :
-    (f : Any_Card) → Demand2 f → (s : State) (i : Call) (page : List ℕ) → questions_room ≤ length page → settle_stop s i ≡ 0
+    (f : AnyCard) → Demand2 f → (s : State) (i : Call) (page : List ℕ) → questions_room ≤ length page → settle_stop s i ≡ 0
     → Alike (f.taps.ask s (ask_call i.request i.draw page)).result.reason (f.taps.settle s i).result.reason
 reasons_alike f d s i page l e =
     let asking : Call = ask_call i.request i.draw page in

@@ -13,7 +13,7 @@ use Rattle.card.specs.Layout.{signature_size, most_hashes, top32}
 use Rattle.card.specs.Values.{last_of}
 use Rattle.kept.proofs.Kept.{last_of_held}
 use Rattle.manual.specs.Words.{hash_size}
-use Rattle.manual.specs.Tags.{CVC, Transaction_Hash}
+use Rattle.manual.specs.Tags.{CVC, TransactionHash}
 use Rattle.manual.specs.Row.{Matched, Question, fitting, exactly, any_byte, shaped}
 use Rattle.manual.specs.Wallet.{sign, is_new, count, sign_fields, hash_questions, signed_face}
 use Rattle.facts.proofs.Wallet.{few}
@@ -40,7 +40,7 @@ hash_answers number curve (suc (suc n)) l a e =
     omega (arith, y, z, length-take signature_size a, length-drop signature_size a)
 
 pub answer_size : (f : Face) (v : View) (d a : List ℕ) → is_new v ≡ true → shaped (sign.questions f v d) a ≡ true → length a ≡ count v * signature_size
-answer_size f v d a n e = hash_answers f.front.wallet.number f.front.fixed.curve (count v) (val Transaction_Hash v) a (rw n at e)
+answer_size f v d a n e = hash_answers f.front.wallet.number f.front.fixed.curve (count v) (val TransactionHash v) a (rw n at e)
 
 -- NEEDED
 pub record Needed (m : Matched) (f : Face) (v : View) : Type 0 where
@@ -82,7 +82,7 @@ still false f n a = refl
 
 -- what new hashes asked and left
 pub record Signed (f : Face) (v : View) (a : List ℕ) (x : List Question) (g : Face) : Type 0 where
-  pub questions : x ≡ hash_questions f.front.wallet.number f.front.fixed.curve (count v) (val Transaction_Hash v)
+  pub questions : x ≡ hash_questions f.front.wallet.number f.front.fixed.curve (count v) (val TransactionHash v)
   pub size : length a ≡ count v * signature_size
   pub last : last_of g.last ≡ a
 

@@ -15,7 +15,7 @@ use Rattle.card.specs.Valid.{ok_block}
 use Rattle.kept.proofs.Tests.{valid}
 use Rattle.kept.proofs.Kept.{held_block_ok, held_issuer_ok}
 use Rattle.kept.proofs.Next.{ok_counters, ok_user, ok_protected, ok_issuer_lem}
-use Rattle.manual.specs.Tags.{User_Data, User_Protected_Data, User_Counter, User_Protected_Counter, Issuer_Data, Issuer_Data_Signature}
+use Rattle.manual.specs.Tags.{UserData, UserProtectedData, UserCounter, UserProtectedCounter, IssuerData, IssuerDataSignature}
 use Rattle.manual.specs.declared.Command.TheVariants.{ReadUserData, WriteUserData, WriteIssuerData, ReadIssuerData}
 use Rattle.manual.specs.Row.{Matched}
 use Rattle.manual.specs.Storage.{held_field, is_data, block_sent, number_sent, any_sent, user_fields, stored_block, stored_counters, guarded, sent_counter, kept_counter}
@@ -37,17 +37,17 @@ stored_ok t v b o e =
 
 -- what check 11 asks of each field of an E0 that is there
 pub record Formed (v : View) : Type 0 where
-  pub block : block_sent User_Data v ≡ true
-  pub hidden : block_sent User_Protected_Data v ≡ true
-  pub number : number_sent User_Counter v ≡ true
-  pub guarded : number_sent User_Protected_Counter v ≡ true
+  pub block : block_sent UserData v ≡ true
+  pub hidden : block_sent UserProtectedData v ≡ true
+  pub number : number_sent UserCounter v ≡ true
+  pub guarded : number_sent UserProtectedCounter v ≡ true
 
 pub formed : (v : View) → user_fields v ≡ true → Formed v
 formed v e =
     let x = (both_true (any_sent v) _ e).1 in
-    let y = both_true (block_sent User_Data v && block_sent User_Protected_Data v) (number_sent User_Counter v && number_sent User_Protected_Counter v) x in
-    let b = both_true (block_sent User_Data v) (block_sent User_Protected_Data v) y.0 in
-    let n = both_true (number_sent User_Counter v) (number_sent User_Protected_Counter v) y.1 in
+    let y = both_true (block_sent UserData v && block_sent UserProtectedData v) (number_sent UserCounter v && number_sent UserProtectedCounter v) x in
+    let b = both_true (block_sent UserData v) (block_sent UserProtectedData v) y.0 in
+    let n = both_true (number_sent UserCounter v) (number_sent UserProtectedCounter v) y.1 in
     record { block = b.0; hidden = b.1; number = n.0; guarded = n.1 }
 
 -- what check 12 asks of a note on a protected card
@@ -62,9 +62,9 @@ module _ (m : Matched) (f : Face) (q d a : List ℕ) where
       record {
         reports =
             quietly _ _
-            (quiet_join (held_field User_Data (block_of f.held.user)) _ (held_quiet User_Data (block_of f.held.user) refl)
-            (quiet_join (held_field User_Protected_Data (block_of f.held.protected)) _
-            (held_quiet User_Protected_Data (block_of f.held.protected) refl)
+            (quiet_join (held_field UserData (block_of f.held.user)) _ (held_quiet UserData (block_of f.held.user) refl)
+            (quiet_join (held_field UserProtectedData (block_of f.held.protected)) _
+            (held_quiet UserProtectedData (block_of f.held.protected) refl)
             refl));
         asks = refl;
         keeps = λ sh x h r i t s. rw (t.create, t.pin, t.sign, t.purge, t.activate) i;
@@ -83,10 +83,10 @@ module _ (m : Matched) (f : Face) (q d a : List ℕ) where
         stays = λ o g.
             let y = valid f o in
             let e = formed v p.fields in
-            let x = stored_block User_Data v f.held.user in
-            let z = stored_block User_Protected_Data v f.held.protected in
-            let i = ok_user f o x (stored_ok User_Data v f.held.user y.user e.block) in
-            let j = ok_protected (with_user x f) i z (stored_ok User_Protected_Data v f.held.protected y.protected e.hidden) in
+            let x = stored_block UserData v f.held.user in
+            let z = stored_block UserProtectedData v f.held.protected in
+            let i = ok_user f o x (stored_ok UserData v f.held.user y.user e.block) in
+            let j = ok_protected (with_user x f) i z (stored_ok UserProtectedData v f.held.protected y.protected e.hidden) in
             ok_counters (with_protected z (with_user x f)) j (stored_counters v f.front.counters);
         alive = λ u e. clash u refl;
         climbs = λ g. same refl refl;
@@ -101,8 +101,8 @@ module _ (m : Matched) (f : Face) (q d a : List ℕ) where
         keeps = λ sh x h r i t s. rw (t.create, t.pin, t.sign, t.purge, t.activate) i;
         stays = λ o g.
             let n = note f v p.fields in
-            ok_issuer_lem f o (held_issuer (val Issuer_Data v) (val Issuer_Data_Signature v) (kept_counter f v))
-            (held_issuer_ok (val Issuer_Data v) (val Issuer_Data_Signature v) (kept_counter f v) n.least n.most);
+            ok_issuer_lem f o (held_issuer (val IssuerData v) (val IssuerDataSignature v) (kept_counter f v))
+            (held_issuer_ok (val IssuerData v) (val IssuerDataSignature v) (kept_counter f v) n.least n.most);
         alive = λ u e. clash u refl;
         climbs = λ g. record { replay = refl; counter = let e : kept_counter f v ≡ sent_counter v = rw g in omega (arith, above m f v p g) };
       }

@@ -34,7 +34,7 @@ use Rattle.manual.specs.Settle.{sent_in, judged_by, judged, Said, silent, refuse
 use Rattle.manual.specs.Settle.{pace_of, pausing, leaving, paced_by, paced, paced_reason, paced_word, paced_questions}
 use Rattle.story.specs.Sums.{body_of, last_word, told_in, is_done, accepted}
 use Rattle.history.specs.Demands.{check_word, is_refusal}
-use Rattle.history.specs.Facts.{checks_of, check_holds, First_Fails, All_Hold}
+use Rattle.history.specs.Facts.{checks_of, check_holds, FirstFails, AllHold}
 use Rattle.history.specs.Wrong.{says_at}
 use Rattle.history.proofs.Choice.{by_cases, both_true, clash}
 use Rattle.history.proofs.Delay.{resting, resting_long, resting_ok, Delayed, delayed_ok}
@@ -93,7 +93,7 @@ past r rs j e = go (not (eqb r.check j))
     go true = refl
     go false = ap (λ a. a && check_holds j rs) e
 
-pub all_hold : (rs : List Rule) → Every rs → All_Hold rs
+pub all_hold : (rs : List Rule) → Every rs → AllHold rs
 all_hold [] h j = refl
 all_hold (r ∷ rs) h j = past r rs j h.0 ∙ all_hold rs h.1 j
 
@@ -138,7 +138,7 @@ not_pause n w e =
 -- the first check to fail refuses, or every rule holds
 by_rules :
     (P : Verdict → Type 0) (b : ℕ) (rs : List Rule) (g : Verdict) → refusals b rs ≡ true
-    → ((n w : ℕ) → is_refusal n w ≡ true → is_done w ≡ false → First_Fails n rs → P (Stop n w)) → (Every rs → P g) → P (gate_of rs g)
+    → ((n w : ℕ) → is_refusal n w ≡ true → is_done w ≡ false → FirstFails n rs → P (Stop n w)) → (Every rs → P g) → P (gate_of rs g)
 by_rules P b [] g x no_way yes_way = yes_way tt
 by_rules P b (r ∷ rs) g x no_way yes_way =
     let y = (both_true (leb b r.check) (is_refusal r.check r.word && refusals r.check rs) x).1 in
@@ -168,7 +168,7 @@ pub record Passed (r : Row) (m : Matched) (f : Face) (v : View) : Type 0 where
 
 module _ (r : Row) (m : Matched) (f : Face) (q : List ℕ) where
   pub by_checks :
-      (P : Verdict → Type 0) → ((n w : ℕ) → is_refusal n w ≡ true → is_done w ≡ false → First_Fails n (checks_of r m f q) → P (Stop n w))
+      (P : Verdict → Type 0) → ((n w : ℕ) → is_refusal n w ≡ true → is_done w ≡ false → FirstFails n (checks_of r m f q) → P (Stop n w))
       → (Every (checks_of r m f q) → P (passed q)) → P (gate_of (checks_of r m f q) (passed q))
   by_checks P = by_rules P 0 (checks_of r m f q) (passed q) refl
 
@@ -206,7 +206,7 @@ positive (suc t) e = omega arith
 pub record Stopped (m : Matched) (f : Face) (q : List ℕ) (n w : ℕ) : Type 0 where
   pub word : is_refusal n w ≡ true
   pub not_done : is_done w ≡ false
-  pub first : First_Fails n (checks_of (row (command q)) m f q)
+  pub first : FirstFails n (checks_of (row (command q)) m f q)
   pub verdict : judged m f q ≡ Stop n w
   pub goes : leb 11 n ≡ true → seconds (row (command q)) f (sent_in q) q ≡ 0
 
@@ -214,7 +214,7 @@ pub record Stopped (m : Matched) (f : Face) (q : List ℕ) (n w : ℕ) : Type 0 
 pub record Through (m : Matched) (f : Face) (q : List ℕ) : Type 0 where
   pub verdict : judged m f q ≡ passed q
   pub passed : Passed (row (command q)) m f (sent_in q)
-  pub all : All_Hold (checks_of (row (command q)) m f q)
+  pub all : AllHold (checks_of (row (command q)) m f q)
   pub goes : seconds (row (command q)) f (sent_in q) q ≡ 0
 
 -- what is said by the pace

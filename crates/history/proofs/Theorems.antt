@@ -14,7 +14,7 @@ use Rattle.card.specs.Layout.{held_room, image_size, image_room}
 use Rattle.card.specs.Values.{no_pending, with_pending}
 use Rattle.card.specs.Image.{encode, decode}
 use Rattle.card.specs.Valid.{ok_pending, ok_face, is_card}
-use Rattle.card.specs.Shape.{Shape_Face, Shape}
+use Rattle.card.specs.Shape.{ShapeFace, Shape}
 use Rattle.cards.proofs.Shape.{length_encode, held_request_long}
 use Rattle.cards.proofs.Round.{decode_encode, shape_decode, is_card_length, is_card_face, card_image, is_card_encode}
 use Rattle.kept.proofs.Waits.{dropped_ok, no_pending_ok, keeps_pending, card_bounds}
@@ -31,7 +31,7 @@ use Rattle.manual.specs.Settle.{off_by, card_off, powered_off}
 use Rattle.facts.proofs.Facts.{small_decode, small_shape, facts, asks, tells}
 use Rattle.story.specs.Sums.{is_done}
 use Rattle.story.specs.Buffers.{image, image_off}
-use Rattle.history.specs.Demands.{Any_Card, But_Wait, wait_in, only_counted, holding_for, settle_refusal, Asked, none_asked, all_asked, must_wait}
+use Rattle.history.specs.Demands.{AnyCard, ButWait, wait_in, only_counted, holding_for, settle_refusal, Asked, none_asked, all_asked, must_wait}
 use Rattle.history.specs.Demands.{Ended, shapeless, refusal, carried_out, off, Demand1, Demand2, image_by, Demand3}
 use Rattle.history.specs.Demands.{pausing as is_pause}
 use Rattle.history.specs.Facts.{Unchanged, Stays}
@@ -46,15 +46,15 @@ use Rattle.history.proofs.Images.{quiet, by_call, shape_is, image_bytes, image_i
 use Rattle.history.proofs.Agrees.{agree_model}
 
 -- DEMAND 3 follows from demand 2
-pub demand3 : (f : Any_Card) → Demand2 f → Demand3 f
+pub demand3 : (f : AnyCard) → Demand2 f → Demand3 f
 demand3 f h = subst Demand3 (is_model f h) model_demand3
 
 -- demand 2 leaves nothing open: no two cards meet it
-pub unique : (f g : Any_Card) → Demand2 f → Demand2 g → f ≡ g
+pub unique : (f g : AnyCard) → Demand2 f → Demand2 g → f ≡ g
 unique f g h k = sym (is_model f h) ∙ is_model g k
 
 -- of the manual, and so of any card that meets demand 2
-pub every : (P : Any_Card → Type 0) → P model → (f : Any_Card) → Demand2 f → P f
+pub every : (P : AnyCard → Type 0) → P model → (f : AnyCard) → Demand2 f → P f
 every P p f h = subst P (is_model f h) p
 
 -- THE OLD IMAGE BUT FOR THE WAIT
@@ -65,7 +65,7 @@ module _ (m : List ℕ) (o : is_card m ≡ true) (p : Pending) (l : length p.req
   next_long : image_size ≡ length (encode (waiting p (decode m)))
   next_long = sym (length_encode (waiting p (decode m)) shape_next)
 
-  pub but_wait : ok_pending p ≡ true → But_Wait p m (encode (waiting p (decode m)))
+  pub but_wait : ok_pending p ≡ true → ButWait p m (encode (waiting p (decode m)))
   but_wait e =
       record {
         card = decode_encode (waiting p (decode m)) shape_next;
@@ -74,7 +74,7 @@ module _ (m : List ℕ) (o : is_card m ≡ true) (p : Pending) (l : length p.req
       }
 
 -- a power-off
-turned_off_lem : (m : List ℕ) → is_card m ≡ true → But_Wait (only_counted (wait_in m).wrong) m (encode (card_off (decode m)))
+turned_off_lem : (m : List ℕ) → is_card m ≡ true → ButWait (only_counted (wait_in m).wrong) m (encode (card_off (decode m)))
 turned_off_lem m o = but_wait m o (pending_off (decode m).face.pending) refl (dropped_ok (wait_in m) (card_bounds m o).wrong)
 
 -- WHAT IS LEFT OF A CARD IS A CARD
@@ -88,7 +88,7 @@ stays_at m i o =
 stays_model : (m : State) (i : Call) → is_card m.image ≡ true → is_card (image_by model m i) ≡ true
 stays_model m i e = by_call (λ z. is_card (image m.image z) ≡ true) m i (λ n k. rw k e) (λ o _ _. stays_at m i o)
 
-pub card_stays : (f : Any_Card) → Demand2 f → (m : State) (i : Call) → is_card m.image ≡ true → is_card (image_by f m i) ≡ true
+pub card_stays : (f : AnyCard) → Demand2 f → (m : State) (i : Call) → is_card m.image ≡ true → is_card (image_by f m i) ≡ true
 card_stays = every (λ f. (m : State) (i : Call) → is_card m.image ≡ true → is_card (image_by f m i) ≡ true) stays_model
 
 -- after a power-off too
@@ -99,7 +99,7 @@ off_model m nxt e =
     (λ o. rw (image_off_lem m.image o nxt) ((turned_off_lem m.image o).stays o))
 
 pub off_stays :
-    (f : Any_Card) → Demand2 f → (m : State) (nxt : List ℕ) → is_card m.image ≡ true → is_card (image_off m.image (f.power_off m nxt)) ≡ true
+    (f : AnyCard) → Demand2 f → (m : State) (nxt : List ℕ) → is_card m.image ≡ true → is_card (image_off m.image (f.power_off m nxt)) ≡ true
 off_stays = every (λ f. (m : State) (nxt : List ℕ) → is_card m.image ≡ true → is_card (image_off m.image (f.power_off m nxt)) ≡ true) off_model
 
 -- DEMAND 1. ask
@@ -182,7 +182,7 @@ module _ (m : State) (i : Call) (o : is_card m.image ≡ true) where
   unfolding lent done
   carries h g =
       let n : Face = (row k).next c.face v i.answers in
-      let u : Shape_Face n = (facts k).shape c.face v i.answers shape.face in
+      let u : ShapeFace n = (facts k).shape c.face v i.answers shape.face in
       let d : Card = record { face = n; codes = (row k).recode v c.codes } in
       let s : Shape (waiting no_pending d) = shape_waiting no_pending d (record { codes = (facts k).codes v c.codes shape.codes; face = u }) refl in
       let w : ℕ = sw_process_completed + (row k).more x in
@@ -228,7 +228,7 @@ model_demand1 =
           (off (encode c) (turned_off_lem m.image o.0) (λ j. off_by 0 (encode c ++ drop (sym (length_encode c (shape_off m.image o.0)) j) nxt)));
     }
 
-pub demand1 : (f : Any_Card) → Demand2 f → Demand1 f
+pub demand1 : (f : AnyCard) → Demand2 f → Demand1 f
 demand1 = every Demand1 model_demand1
 
 -- A REFUSAL, or a pause, leaves the card as it was but for the wait; a number other than 0 leaves all of it
@@ -262,7 +262,7 @@ module _ (m : State) (i : Call) where
         (λ _. refl)
         (λ n. sym (ap encode (quiet (decode m.image) i.request i.draw i.answers n).1 ∙ card_image m.image o b))
 
-    pub waits_where : {p : Pending} → card_at m i ≡ waiting p (decode m.image) → But_Wait p m.image (image m.image (settled_at m i))
+    pub waits_where : {p : Pending} → card_at m i ≡ waiting p (decode m.image) → ButWait p m.image (image m.image (settled_at m i))
     waits_where e = record { card = image_is m i o ∙ e; stays = λ o. stays_at m i o; bytes = λ _ b. next_bytes b ∙ ap encode e }
 
   -- of a call: nothing changes where it is not looked at, nor where the card stays
@@ -287,7 +287,7 @@ module _ (m : State) (i : Call) where
       (λ o _ _ p. let e = h p in (e.0, waits_where o e.1))
 
 pub refusal_keeps :
-    (f : Any_Card) → Demand2 f → (m : State) (i : Call) → is_done (f.taps.settle m i).result.word ≡ false → Stays m.image (image_by f m i)
+    (f : AnyCard) → Demand2 f → (m : State) (i : Call) → is_done (f.taps.settle m i).result.word ≡ false → Stays m.image (image_by f m i)
 refusal_keeps =
     every (λ f. (m : State) (i : Call) → is_done (f.taps.settle m i).result.word ≡ false → Stays m.image (image_by f m i))
     (λ m i.
@@ -297,7 +297,7 @@ refusal_keeps =
     (refused_card c i.request i.draw i.answers)))
 
 pub number_keeps :
-    (f : Any_Card) → Demand2 f → (m : State) (i : Call) → eqb (f.taps.settle m i).result.number 0 ≡ false → Unchanged m.image (image_by f m i)
+    (f : AnyCard) → Demand2 f → (m : State) (i : Call) → eqb (f.taps.settle m i).result.number 0 ≡ false → Unchanged m.image (image_by f m i)
 number_keeps =
     every (λ f. (m : State) (i : Call) → eqb (f.taps.settle m i).result.number 0 ≡ false → Unchanged m.image (image_by f m i))
     (λ m i.
@@ -323,7 +323,7 @@ idle_card c q d a e w =
     same p z = ap (λ p. waiting p c) (z ∙ sym e)
 
 pub refusal_unchanged :
-    (f : Any_Card) → Demand2 f → (m : State) (i : Call) → (decode m.image).face.pending ≡ no_pending → over_wrong (decode m.image) i.request ≡ false
+    (f : AnyCard) → Demand2 f → (m : State) (i : Call) → (decode m.image).face.pending ≡ no_pending → over_wrong (decode m.image) i.request ≡ false
     → is_done (f.taps.settle m i).result.word ≡ false → eqb (f.taps.settle m i).result.word sw_need_pause ≡ false
     → Unchanged m.image (image_by f m i)
 refusal_unchanged =

@@ -17,7 +17,7 @@ use Rattle.card.specs.Values.{u8, default_pin1, default_pin2}
 use Rattle.card.specs.Image.{decode}
 use Rattle.card.specs.Valid.{is_card}
 use Rattle.manual.specs.Words.{sw_invalid_params, sw_invalid_status, questions_room, draw_size}
-use Rattle.manual.specs.Tags.{CID, PIN1, PIN2, CVC, New_PIN1, New_PIN2, Reset_PIN1, Transaction_Hash, Transaction_Hash_Size}
+use Rattle.manual.specs.Tags.{CID, PIN1, PIN2, CVC, NewPIN1, NewPIN2, ResetPIN1, TransactionHash, TransactionHashSize}
 use Rattle.manual.specs.declared.Command.{Command}
 use Rattle.manual.specs.declared.Verdict.{Verdict}
 use Rattle.manual.specs.declared.Verdict.TheVariants.{Pass, Stop}
@@ -34,8 +34,8 @@ use Rattle.manual.specs.Settle.{pace_of, paced, paced_to, paced_reason, paced_wo
 use Rattle.manual.specs.Settle.{Posed, asked_of, asked_for, settled_of, lent, settled, outcome, posed, posed_by, untouched, roomy}
 use Rattle.story.specs.Sums.{History, accepted}
 use Rattle.story.specs.Buffers.{response}
-use Rattle.history.specs.Demands.{Any_Card, Demand2, Event, tapped, switched_off, leaves, adds, played}
-use Rattle.history.specs.Facts.{Same_Field, checks_at, check_holds, is_of, Once_Each, All_Once, sending, Passes_Five, Beside}
+use Rattle.history.specs.Demands.{AnyCard, Demand2, Event, tapped, switched_off, leaves, adds, played}
+use Rattle.history.specs.Facts.{SameField, checks_at, check_holds, is_of, OnceEach, AllOnce, sending, PassesFive, Beside}
 use Rattle.history.specs.Waiting.{wait_of}
 use Rattle.history.specs.Wrong.{says_at}
 use Rattle.history.proofs.Choice.{by_cases, both_true, clash}
@@ -62,42 +62,42 @@ of_list v t (u ∷ us) s e =
     go h rest true i e = subst (λ x. twice x v ≡ false) (eqb-true u t i) h
     go h rest false i e = rest e
 
-each_once : (q : List ℕ) → single (row (command q)).reads (sent_in q) ≡ true → Once_Each q
+each_once : (q : List ℕ) → single (row (command q)).reads (sent_in q) ≡ true → OnceEach q
 unfolding sent_in view_of twice
 each_once q h t e = at_most (copies t (rest_from (payload q) 0)) (of_list (sent_in q) t (row (command q)).reads h e)
 
 -- A REQUEST THAT PASSES CHECK 5 has each tag of its command's entry at most once
-pub five_once : (s : State) (i : Call) → check_holds 5 (checks_at s i) ≡ true → Once_Each i.request
+pub five_once : (s : State) (i : Call) → check_holds 5 (checks_at s i) ≡ true → OnceEach i.request
 five_once s i h =
     let b : Bool = single (row (command i.request)).reads (sent_in i.request) in
     each_once i.request (both_true b true (both_true (well_formed (payload i.request)) (b && true) h).1).0
 
 -- AN ACCEPTED REQUEST of any history has each tag of its command's entry at most once
-once_model : (s : State) (i : Call) → accepted (response (settled s i)) ≡ true → Once_Each i.request
+once_model : (s : State) (i : Call) → accepted (response (settled s i)) ≡ true → OnceEach i.request
 unfolding accepted
 once_model s i =
-    by_call (λ z. accepted (response z) ≡ true → Once_Each i.request) s i
+    by_call (λ z. accepted (response z) ≡ true → OnceEach i.request) s i
     (λ n k e. clash e (rw k refl))
     (λ _ _ _ e.
     let c = decode s.image in
     let m = matched c.codes (sent_in i.request) in
     each_once i.request (carried m c.face i.request i.draw i.answers (rw (response_is s i) at e)).passed.once)
 
-play_model : (s : State) (h : History) (es : List Event) → All_Once h → All_Once (played model s h es)
+play_model : (s : State) (h : History) (es : List Event) → AllOnce h → AllOnce (played model s h es)
 play_model s h [] o = o
 play_model s h (tapped i ∷ es) o = play_model (leaves model s (tapped i)) (adds model s (tapped i) ++ h) es (once_model s i, o)
 play_model s h (switched_off nxt ∷ es) o = play_model (leaves model s (switched_off nxt)) h es o
 
-pub accepted_once : (f : Any_Card) → Demand2 f → (s : State) (es : List Event) → All_Once (played f s [] es)
-accepted_once = every (λ f. (s : State) (es : List Event) → All_Once (played f s [] es)) (λ s es. play_model s [] es tt)
+pub accepted_once : (f : AnyCard) → Demand2 f → (s : State) (es : List Event) → AllOnce (played f s [] es)
+accepted_once = every (λ f. (s : State) (es : List Event) → AllOnce (played f s [] es)) (λ s es. play_model s [] es tt)
 
 -- and the tags that a history's sums read of a command are in its entry: PIN1, PIN2 and CVC, the new codes, Reset_PIN1, the hashes and their size
 pub sums_listed :
     (is_of PIN1 sign.reads ≡ true) × (is_of PIN2 sign.reads ≡ true) × (is_of CVC sign.reads ≡ true)
-    × (is_of Transaction_Hash sign.reads ≡ true) × (is_of Transaction_Hash_Size sign.reads ≡ true)
+    × (is_of TransactionHash sign.reads ≡ true) × (is_of TransactionHashSize sign.reads ≡ true)
     × (is_of PIN1 create_wallet.reads ≡ true) × (is_of PIN2 create_wallet.reads ≡ true) × (is_of CVC create_wallet.reads ≡ true)
-    × (is_of New_PIN1 set_pin.reads ≡ true) × (is_of New_PIN2 set_pin.reads ≡ true)
-    × (is_of PIN1 activate_card.reads ≡ true) × (is_of Reset_PIN1 activate_card.reads ≡ true)
+    × (is_of NewPIN1 set_pin.reads ≡ true) × (is_of NewPIN2 set_pin.reads ≡ true)
+    × (is_of PIN1 activate_card.reads ≡ true) × (is_of ResetPIN1 activate_card.reads ≡ true)
 sums_listed = (refl, refl, refl, refl, refl, refl, refl, refl, refl, refl, refl, refl)
 
 -- CHECKS 1 TO 5 by name, and what is left of the judgement where they hold
@@ -110,7 +110,7 @@ record Opened (r : Row) (q : List ℕ) : Type 0 where
   pub formed : well_formed (payload q) ≡ true
   pub once : single r.reads (sent_in q) ≡ true
 
-opened : (s : State) (i : Call) → Passes_Five s i → Opened (row (command i.request)) i.request
+opened : (s : State) (i : Call) → PassesFive s i → Opened (row (command i.request)) i.request
 opened s i h =
     let q : List ℕ = i.request in
     let b : Bool = single (row (command q)).reads (sent_in q) in
@@ -177,7 +177,7 @@ module _ (r : Row) (x : Codes) (f : Face) where
       (h.fields f j) (h.conditions x f j)
 
   -- what counts as a wrong code of two fields that agree, and of the verdict on both
-  same_counts : (t : ℕ) (default : List ℕ) (v w : View) → Same_Field t v w → counts t default v ≡ counts t default w
+  same_counts : (t : ℕ) (default : List ℕ) (v w : View) → SameField t v w → counts t default v ≡ counts t default w
   same_counts t default v w h = λ j. h.0 j && not (same_holds t v w h default j)
 
   same_wrong :
@@ -341,7 +341,7 @@ module _ (s : State) (i : Call) (q : List ℕ) (b : Beside s i q) where
 
 -- where they wait alike, ask says the same; and so does settle, where they need not wait: what is held is the request itself
 pub own_tags :
-    (f : Any_Card) → Demand2 f → (s : State) (i : Call) (q : List ℕ) → Beside s i q → wait_of (decode s.image) q ≡ wait_of (decode s.image) i.request
+    (f : AnyCard) → Demand2 f → (s : State) (i : Call) (q : List ℕ) → Beside s i q → wait_of (decode s.image) q ≡ wait_of (decode s.image) i.request
     → (f.taps.ask s (sending q i) ≡ f.taps.ask s i)
     × (wait_of (decode s.image) i.request ≡ 0 → f.taps.settle s (sending q i) ≡ f.taps.settle s i)
 own_tags =

@@ -12,7 +12,7 @@ use Rattle.manual.specs.declared.Command.TheVariants.{ActivateCard}
 use Rattle.manual.specs.Settle.{waiting, State, Call, sent_in, paced_to}
 use Rattle.story.specs.Sums.{Sheet, History, tap, accepted, did, active}
 use Rattle.story.specs.Buffers.{response, image}
-use Rattle.history.specs.Demands.{Any_Card, Demand2, Event, tapped, switched_off, tap_by, image_by, leaves, adds, played, Fresh, Demand3}
+use Rattle.history.specs.Demands.{AnyCard, Demand2, Event, tapped, switched_off, tap_by, image_by, leaves, adds, played, Fresh, Demand3}
 use Rattle.history.specs.Facts.{woken_card, state_after, history_of}
 use Rattle.history.proofs.Choice.{clash, did_activate}
 use Rattle.history.proofs.Cards.{after}
@@ -38,7 +38,7 @@ wake_model m i =
     (λ o _ _. rw (image_is m i o, response_is m i) (wake_card (decode m.image) i.request i.draw i.answers))
 
 pub activation_changes :
-    (f : Any_Card) → Demand2 f → (m : State) (i : Call) → did ActivateCard (tap_by f m i) ≡ true
+    (f : AnyCard) → Demand2 f → (m : State) (i : Call) → did ActivateCard (tap_by f m i) ≡ true
     → decode (image_by f m i) ≡ waiting no_pending (woken_card (sent_in i.request) (decode m.image))
 activation_changes =
     every
@@ -48,7 +48,7 @@ activation_changes =
     wake_model
 
 -- ACTIVATED ONCE is activated for good, whatever card it is
-pub active_stays : (f : Any_Card) (sh : Sheet) (s : State) (h : History) → active sh h ≡ 1 → (es : List Event) → active sh (played f s h es) ≡ 1
+pub active_stays : (f : AnyCard) (sh : Sheet) (s : State) (h : History) → active sh h ≡ 1 → (es : List Event) → active sh (played f s h es) ≡ 1
 active_stays f sh s h e [] = e
 active_stays f sh s h e (tapped i ∷ es) =
     active_stays f sh (leaves f s (tapped i)) (adds f s (tapped i) ++ h) (go (did ActivateCard (tap_by f s i))) es
@@ -59,7 +59,7 @@ active_stays f sh s h e (tapped i ∷ es) =
 active_stays f sh s h e (switched_off nxt ∷ es) = active_stays f sh (leaves f s (switched_off nxt)) h e es
 
 -- THE FLAG in the image, and THE SEED, after any calls
-module _ (f : Any_Card) (h : Demand3 f) (sh : Sheet) (m : List ℕ) (e : Fresh sh m) (es : List Event) where
+module _ (f : AnyCard) (h : Demand3 f) (sh : Sheet) (m : List ℕ) (e : Fresh sh m) (es : List Event) where
   pub flag_is_active : (decode (state_after f m es).image).face.front.flags.active ≡ active sh (history_of f m es)
   flag_is_active = ap (λ g. g.active) (h.kept sh m e es).flags
 

@@ -12,8 +12,8 @@ use Rattle.card.specs.Image.{encode, decode}
 use Rattle.card.specs.Valid.{is_card}
 use Rattle.manual.specs.Words.{sw_process_completed, sw_error_processing_command, sw_need_pause, questions_room, response_room, draw_size}
 use Rattle.manual.specs.Words.{sw_wrong_length, sw_need_encryption, sw_invalid_status, sw_invalid_params, sw_ins_not_supported, sw_cla_not_supported}
-use Rattle.manual.specs.Tags.{CID, PIN1, PIN2, CVC, Status, Curve_ID, Challenge, Activation_Signature, Reset_PIN1, Activation_Seed}
-use Rattle.manual.specs.Tags.{Transaction_Hash, Signature, Remaining, Signed_Hashes}
+use Rattle.manual.specs.Tags.{CID, PIN1, PIN2, CVC, Status, CurveID, Challenge, ActivationSignature, ResetPIN1, ActivationSeed}
+use Rattle.manual.specs.Tags.{TransactionHash, Signature, Remaining, SignedHashes}
 use Rattle.manual.specs.declared.Command.TheVariants.{ReadCard, CreateWallet, CheckWallet, Sign, PurgeWallet, ReadIssuerData, ActivateCard}
 use Rattle.manual.specs.Request.{code, listed, ins_of}
 use Rattle.manual.specs.Row.{Question, question, asked, shaped}
@@ -32,7 +32,7 @@ pub record Taps : Type 0 where
   pub ask : State → Call → Posed
   pub settle : State → Call → Settled
 
-pub record Any_Card : Type 0 where
+pub record AnyCard : Type 0 where
   pub taps : Taps
   pub power_off : State → List ℕ → Off
 
@@ -53,7 +53,7 @@ abbrev pub off_stop : State → List ℕ → ℕ
 off_stop s nxt = stop (is_card s.image) (leb image_room (length nxt)) true
 
 -- THE WAIT (02 Ask 7). m' is the image m but for it: in bytes, where m is a card in bytes
-pub record But_Wait (p : Pending) (m m' : List ℕ) : Type 0 where
+pub record ButWait (p : Pending) (m m' : List ℕ) : Type 0 where
   pub card : decode m' ≡ waiting p (decode m)
   pub stays : is_card m ≡ true → is_card m' ≡ true
   pub bytes : is_card m ≡ true → Bytes m → m' ≡ encode (waiting p (decode m))
@@ -111,18 +111,18 @@ pub data Ended (s : State) (i : Call) (x : Settled) : Type 0 where
   shapeless : x ≡ untouched 4 i.buffers.out i.buffers.next → Ended s i x
   refusal :
       (n w wrong : ℕ) (m' : List ℕ) → settle_refusal n w ≡ true → count_after n (wait_in s.image).wrong wrong ≡ true
-      → But_Wait (only_counted wrong) s.image m'
+      → ButWait (only_counted wrong) s.image m'
       → x ≡ settled_by (outcome 0 n w 2) (over (be2 w) i.buffers.out) (over m' i.buffers.next) → Ended s i x
   pausing :
-      (t : ℕ) (m' : List ℕ) → 1 ≤ t → t ≤ most_left → But_Wait (holding_for t i.request (wait_in s.image)) s.image m'
+      (t : ℕ) (m' : List ℕ) → 1 ≤ t → t ≤ most_left → ButWait (holding_for t i.request (wait_in s.image)) s.image m'
       → x ≡ settled_by (outcome 0 0 sw_need_pause 6) (over (pause_bytes t) i.buffers.out) (over m' i.buffers.next) → Ended s i x
   carried_out :
       (w : ℕ) (fields m' : List ℕ) → is_done w ≡ true → length fields + 2 ≤ response_room → is_card m' ≡ true → (decode m').face.pending ≡ no_pending
       → x ≡ settled_by (outcome 0 0 w (length fields + 2)) (over (fields ++ be2 w) i.buffers.out) (over m' i.buffers.next) → Ended s i x
 
 -- a power-off leaves the old image but for the wait: nothing is held, and the count stays
-pub data Turned_Off (s : State) (nxt : List ℕ) (x : Off) : Type 0 where
-  off : (m' : List ℕ) → But_Wait (only_counted (wait_in s.image).wrong) s.image m' → x ≡ off_by 0 (over m' nxt) → Turned_Off s nxt x
+pub data TurnedOff (s : State) (nxt : List ℕ) (x : Off) : Type 0 where
+  off : (m' : List ℕ) → ButWait (only_counted (wait_in s.image).wrong) s.image m' → x ≡ off_by 0 (over m' nxt) → TurnedOff s nxt x
 
 -- ask said x and settle, with these answers, y: settle says the reason and the status word of ask's refusal; number 4 exactly where checks 1 to 12 pass and
 -- the answers do not answer ask's questions; and it refuses what passed by check 13 alone, with 6286
@@ -136,7 +136,7 @@ pub record Agree (answers : List ℕ) (x : Posed) (y : Settled) : Type 0 where
       x.result.word ≡ sw_process_completed → y.result.number ≡ 0 → is_done y.result.word ≡ false
       → (y.result.reason ≡ 13) × (y.result.word ≡ sw_error_processing_command)
 
-pub record Demand1 (f : Any_Card) : Type 0 where
+pub record Demand1 (f : AnyCard) : Type 0 where
   pub ask_stops : (s : State) (i : Call) → eqb (ask_stop s i) 0 ≡ false → f.taps.ask s i ≡ posed_by (outcome (ask_stop s i) 0 0 0) i.buffers.page
   pub asks : (s : State) (i : Call) → ask_stop s i ≡ 0 → Asked i (f.taps.ask s i)
   pub settle_stops :
@@ -147,10 +147,10 @@ pub record Demand1 (f : Any_Card) : Type 0 where
       (s : State) (i : Call) (page : List ℕ) → questions_room ≤ length page → settle_stop s i ≡ 0
       → Agree i.answers (f.taps.ask s (ask_call i.request i.draw page)) (f.taps.settle s i)
   pub off_stops : (s : State) (nxt : List ℕ) → eqb (off_stop s nxt) 0 ≡ false → f.power_off s nxt ≡ off_by (off_stop s nxt) nxt
-  pub turns_off : (s : State) (nxt : List ℕ) → Bytes s.image → off_stop s nxt ≡ 0 → Turned_Off s nxt (f.power_off s nxt)
+  pub turns_off : (s : State) (nxt : List ℕ) → Bytes s.image → off_stop s nxt ≡ 0 → TurnedOff s nxt (f.power_off s nxt)
 
 -- DEMAND 2: it answers and changes the card exactly as the manual says
-pub record Demand2 (f : Any_Card) : Type 0 where
+pub record Demand2 (f : AnyCard) : Type 0 where
   pub asks : (s : State) (i : Call) → f.taps.ask s i ≡ asked_for s i
   pub settles : (s : State) (i : Call) → f.taps.settle s i ≡ settled s i
   pub turns_off : (s : State) (nxt : List ℕ) → f.power_off s nxt ≡ powered_off s nxt
@@ -165,27 +165,27 @@ taps_of [] = []
 taps_of (i ∷ is) = tapped i ∷ taps_of is
 
 -- what a tap adds to the history, and the image that it leaves
-abbrev pub tap_by : Any_Card → State → Call → Tap
+abbrev pub tap_by : AnyCard → State → Call → Tap
 tap_by f s i = tap i.request (response (f.taps.settle s i))
 
-abbrev pub image_by : Any_Card → State → Call → List ℕ
+abbrev pub image_by : AnyCard → State → Call → List ℕ
 image_by f s i = image s.image (f.taps.settle s i)
 
 -- an event leaves a state, and adds no tap to the history or one
-abbrev pub leaves : Any_Card → State → Event → State
+abbrev pub leaves : AnyCard → State → Event → State
 leaves f s (tapped i) = holding (image_by f s i)
 leaves f s (switched_off nxt) = holding (image_off s.image (f.power_off s nxt))
 
-abbrev pub adds : Any_Card → State → Event → List Tap
+abbrev pub adds : AnyCard → State → Event → List Tap
 adds f s (tapped i) = tap_by f s i ∷ []
 adds f s (switched_off nxt) = []
 
 -- PLAY: the state that events leave, and the history after them, before which h stood
-abbrev pub left : Any_Card → State → List Event → State
+abbrev pub left : AnyCard → State → List Event → State
 left f s [] = s
 left f s (e ∷ es) = left f (leaves f s e) es
 
-abbrev pub played : Any_Card → State → History → List Event → History
+abbrev pub played : AnyCard → State → History → List Event → History
 played f s h [] = h
 played f s h (e ∷ es) = played f (leaves f s e) (adds f s e ++ h) es
 
@@ -216,7 +216,7 @@ flags_by n g =
 -- SIGN's response: CID, signatures, Remaining and Signed_Hashes
 abbrev pub sign_fields : List ℕ → List ℕ → ℕ → ℕ → List Tagged
 sign_fields cid signatures remaining hashes =
-    fld CID cid ∷ fld Signature signatures ∷ fld Remaining (be4 remaining) ∷ fld Signed_Hashes (be4 hashes) ∷ []
+    fld CID cid ∷ fld Signature signatures ∷ fld Remaining (be4 remaining) ∷ fld SignedHashes (be4 hashes) ∷ []
 
 -- as the history h has them with this tap
 abbrev pub sign_response : Sheet → History → List ℕ → List ℕ
@@ -232,7 +232,7 @@ pub record Entitled (sh : Sheet) (h : History) (v : View) (wanted : ℕ) (secret
   pub cvc : secret ≡ true → sh.flags.usecvc ≡ 1 → holds CVC v sh.fixed.cvc ≡ true
 
 -- and asks for new signatures, in their form, of a wallet that has some left
-pub record New_Sign (sh : Sheet) (h : History) (v : View) : Type 0 where
+pub record NewSign (sh : Sheet) (h : History) (v : View) : Type 0 where
   pub entitled : Entitled sh h v 2 true
   pub remains : made h < sh.fixed.max
   pub is_new : is_new v ≡ true
@@ -247,18 +247,18 @@ pub record Waking (sh : Sheet) (h : History) (v : View) : Type 0 where
 -- whether the issuer confirms it: the confirmation, and what it signs, CID, the sheet's seed and Reset_PIN1
 abbrev pub wake_questions : Sheet → History → View → List Question
 wake_questions sh h v =
-    question 6 (wallets h) sh.fixed.curve (val Activation_Signature v ∷ sh.fixed.cid ∷ sh.fixed.seed ∷ val Reset_PIN1 v ∷ []) ∷ []
+    question 6 (wallets h) sh.fixed.curve (val ActivationSignature v ∷ sh.fixed.cid ∷ sh.fixed.seed ∷ val ResetPIN1 v ∷ []) ∷ []
 
 -- READ_CARD's response, of the card after: activated and Empty
 abbrev pub wake_response : Sheet → History → List ℕ
 wake_response sh h =
     written
-    (fld CID sh.fixed.cid ∷ fld Status (be1 1) ∷ fld Curve_ID (curve_name sh.fixed.curve) ∷ fld Signed_Hashes (be4 (total h)) ∷ [])
+    (fld CID sh.fixed.cid ∷ fld Status (be1 1) ∷ fld CurveID (curve_name sh.fixed.curve) ∷ fld SignedHashes (be4 (total h)) ∷ [])
     ++ be2 sw_process_completed
 
 -- a question of this wallet for each hash, in order
 abbrev pub sign_questions : Sheet → History → View → List Question
-sign_questions sh h v = hash_questions (wallets h) sh.fixed.curve (count v) (val Transaction_Hash v)
+sign_questions sh h v = hash_questions (wallets h) sh.fixed.curve (count v) (val TransactionHash v)
 
 -- QUESTIONS. Nothing is asked, or what is due
 pub data Asks (Due : Type 0) (these : List Question) (x : List ℕ) : Type 0 where
@@ -304,7 +304,7 @@ module _ (sh : Sheet) (h : History) (t : Tap) (i : Call) (x : List ℕ) where
   -- a SIGN that made new signatures was due them; it asked for that wallet and those hashes, in order, and the answers to that are the signatures told,
   -- which stand in the response where `bytes` says
   pub record Rightful : Type 0 where
-    pub is_due : New_Sign sh h v
+    pub is_due : NewSign sh h v
     pub questions : questions_room ≤ length i.buffers.page → x ≡ asked (sign_questions sh h v)
     pub size : length i.answers ≡ count v * signature_size
     pub answers : val Signature (told_in r) ≡ i.answers
@@ -329,7 +329,7 @@ module _ (sh : Sheet) (h : History) (t : Tap) (i : Call) (x : List ℕ) where
     -- accepted or not, SIGN asks for signatures, CREATE_WALLET for a key, CHECK_WALLET for the wallet's word on a challenge, ACTIVATE_CARD for the
     -- issuer's, only where that is due;
     -- no command asks for what is not its own; and a card that was purged and is not reusable asks neither for a wallet nor for its signature again
-    pub sign_asks : ins t.request ≡ code Sign → Asks (New_Sign sh h v) (sign_questions sh h v) x
+    pub sign_asks : ins t.request ≡ code Sign → Asks (NewSign sh h v) (sign_questions sh h v) x
     pub make_asks :
         ins t.request ≡ code CreateWallet → Asks (Entitled sh h v 1 true) (question 1 (wallets h + 1) sh.fixed.curve [] ∷ []) x
     pub check_asks :
@@ -352,11 +352,11 @@ module _ (sh : Sheet) (h : History) (t : Tap) (i : Call) (x : List ℕ) where
     -- Status, Remaining and Signed_Hashes, wherever they are told, are those of the history
     pub state : accepted r ≡ true → has Status (told_in r) ≡ true → val Status (told_in r) ≡ be1 (status sh (t ∷ h))
     pub remaining : accepted r ≡ true → has Remaining (told_in r) ≡ true → val Remaining (told_in r) ≡ be4 (sh.fixed.max - made (t ∷ h))
-    pub signed_hashes : accepted r ≡ true → has Signed_Hashes (told_in r) ≡ true → val Signed_Hashes (told_in r) ≡ be4 (total (t ∷ h))
+    pub signed_hashes : accepted r ≡ true → has SignedHashes (told_in r) ≡ true → val SignedHashes (told_in r) ≡ be4 (total (t ∷ h))
     -- READ_CARD tells the sheet's seed up to the activation, and not after it
     pub seed :
         did ReadCard t ≡ true
-        → (has Activation_Seed (told_in r) ≡ not (eqb (active sh h) 1)) × (eqb (active sh h) 1 ≡ false → val Activation_Seed (told_in r) ≡ sh.fixed.seed)
+        → (has ActivationSeed (told_in r) ≡ not (eqb (active sh h) 1)) × (eqb (active sh h) 1 ≡ false → val ActivationSeed (told_in r) ≡ sh.fixed.seed)
     -- a card that was purged and is not reusable makes neither wallet nor wallet signature again
     pub ended : sh.flags.reusable ≡ 0 → ever_purged h ≡ true → uses_wallet (ins t.request) ≡ true → (accepted r ≡ false) × (x ≡ [])
 
@@ -376,7 +376,7 @@ pub record Kept (sh : Sheet) (h : History) (c : Card) : Type 0 where
   pub last : last_of c.face.last ≡ given h
 
 -- both, from a fresh card on: after any events, refused taps included, each given the state that the last one left
-pub record Demand3 (f : Any_Card) : Type 0 where
+pub record Demand3 (f : AnyCard) : Type 0 where
   pub kept : (sh : Sheet) (m : List ℕ) → Fresh sh m → (es : List Event) → Kept sh (played f (holding m) [] es) (decode (left f (holding m) es).image)
   pub next :
       (sh : Sheet) (m : List ℕ) → Fresh sh m → (es : List Event) (i : Call)

@@ -24,7 +24,7 @@ use Rattle.manual.specs.Tags.{Signature}
 use Rattle.manual.specs.Settle.{State, holding, Call, sent_in, matched}
 use Rattle.story.specs.Sums.{Sheet, History, told_in, is_done, accepted, ins, signed_new, wallets}
 use Rattle.story.specs.Buffers.{questions, response}
-use Rattle.history.specs.Demands.{Any_Card, settle_stop, But_Wait, check_word, is_refusal, Event, tapped, tap_by, image_by, left, played, given, Rightful}
+use Rattle.history.specs.Demands.{AnyCard, settle_stop, ButWait, check_word, is_refusal, Event, tapped, tap_by, image_by, left, played, given, Rightful}
 
 -- the image m' after spells the card that m spelled, and is m itself where m is a card in bytes
 pub record Unchanged (m m' : List ℕ) : Type 0 where
@@ -33,11 +33,11 @@ pub record Unchanged (m m' : List ℕ) : Type 0 where
 
 -- it does so but for the wait (02 Ask 7)
 abbrev pub Stays : List ℕ → List ℕ → Type 0
-Stays m m' = (p : Pending) × But_Wait p m m'
+Stays m m' = (p : Pending) × ButWait p m m'
 
 -- f refuses the call by checks 1 to 12, or has it wait: nothing is asked, nothing accepted, and the card stays but for the wait; the check and its status word are told where settle
 -- says none of 1 to 3 and the request need not wait
-pub record Refused (f : Any_Card) (s : State) (i : Call) : Type 0 where
+pub record Refused (f : AnyCard) (s : State) (i : Call) : Type 0 where
   pub asks : questions (f.taps.ask s i) ≡ []
   pub answer : accepted (response (f.taps.settle s i)) ≡ false
   pub word :
@@ -60,12 +60,12 @@ check_holds n [] = true
 check_holds n (r ∷ rs) = (not (eqb r.check n) || r.ok) && check_holds n rs
 
 -- n is the first to fail
-pub record First_Fails (n : ℕ) (rs : List Rule) : Type 0 where
+pub record FirstFails (n : ℕ) (rs : List Rule) : Type 0 where
   pub before : (j : ℕ) → j < n → check_holds j rs ≡ true
   pub fails : check_holds n rs ≡ false
 
-abbrev pub All_Hold : List Rule → Type 0
-All_Hold rs = (j : ℕ) → check_holds j rs ≡ true
+abbrev pub AllHold : List Rule → Type 0
+AllHold rs = (j : ℕ) → check_holds j rs ≡ true
 
 -- what a result's reason tells of it: 0 exactly where there is a number, or 9000 to 9003, or 9789; else the status word, of which check 4 has two
 pub record Reasoned (r : Outcome) : Type 0 where
@@ -74,14 +74,14 @@ pub record Reasoned (r : Outcome) : Type 0 where
   pub four : r.reason ≡ 4 → (eqb r.word sw_need_encryption || eqb r.word sw_invalid_params) ≡ true
 
 -- the commands that ask for the issuer's word
-pub data Asks_Issuer : Command → Type 0 where
-  note : Asks_Issuer WriteIssuerData
-  activation : Asks_Issuer ActivateCard
+pub data AsksIssuer : Command → Type 0 where
+  note : AsksIssuer WriteIssuerData
+  activation : AsksIssuer ActivateCard
 
 -- check 13: the others hold, the answers have the questions' shape, and the issuer's word on a note or an activation is no
-pub record Said_No (s : State) (i : Call) : Type 0 where
-  pub others : All_Hold (checks_at s i)
-  pub issuer : Asks_Issuer (command i.request)
+pub record SaidNo (s : State) (i : Call) : Type 0 where
+  pub others : AllHold (checks_at s i)
+  pub issuer : AsksIssuer (command i.request)
   pub shape : shaped ((row (command i.request)).questions (decode s.image).face (sent_in i.request) i.draw) i.answers ≡ true
   pub no : i.answers ≡ 0 ∷ []
 
@@ -95,35 +95,35 @@ abbrev pub is_of : ℕ → List ℕ → Bool
 is_of t [] = false
 is_of t (u ∷ us) = eqb u t || is_of t us
 
-abbrev pub Once_Each : List ℕ → Type 0
-Once_Each q = (t : ℕ) → is_of t (row (command q)).reads ≡ true → copies t (rest_from (payload q) 0) ≤ 1
+abbrev pub OnceEach : List ℕ → Type 0
+OnceEach q = (t : ℕ) → is_of t (row (command q)).reads ≡ true → copies t (rest_from (payload q) 0) ≤ 1
 
 -- in every request of a history that was accepted
-abbrev pub All_Once : History → Type 0
-All_Once [] = Unit {0}
-All_Once (t ∷ h) = (accepted t.response ≡ true → Once_Each t.request) × All_Once h
+abbrev pub AllOnce : History → Type 0
+AllOnce [] = Unit {0}
+AllOnce (t ∷ h) = (accepted t.response ≡ true → OnceEach t.request) × AllOnce h
 
 -- WHAT A COMMAND READS. Two views agree on a tag, on absence and value; and on each tag of a list
-abbrev pub Same_Field : ℕ → View → View → Type 0
-Same_Field t v w = (has t v ≡ has t w) × (val t v ≡ val t w)
+abbrev pub SameField : ℕ → View → View → Type 0
+SameField t v w = (has t v ≡ has t w) × (val t v ≡ val t w)
 
-abbrev pub Same_On : List ℕ → View → View → Type 0
-Same_On [] v w = Unit {0}
-Same_On (t ∷ ts) v w = Same_Field t v w × Same_On ts v w
+abbrev pub SameOn : List ℕ → View → View → Type 0
+SameOn [] v w = Unit {0}
+SameOn (t ∷ ts) v w = SameField t v w × SameOn ts v w
 
 -- the call with another request
 abbrev pub sending : List ℕ → Call → Call
 sending q i = record { request = q; draw = i.draw; answers = i.answers; buffers = i.buffers }
 
-abbrev pub Passes_Five : State → Call → Type 0
-Passes_Five s i = (n : ℕ) → n ≤ 5 → check_holds n (checks_at s i) ≡ true
+abbrev pub PassesFive : State → Call → Type 0
+PassesFive s i = (n : ℕ) → n ≤ 5 → check_holds n (checks_at s i) ≡ true
 
 -- a request beside that of the call: of the same command, both past checks 1 to 5, and the same on each tag of the command's entry
 pub record Beside (s : State) (i : Call) (q : List ℕ) : Type 0 where
   pub same : command q ≡ command i.request
-  pub first : Passes_Five s i
-  pub second : Passes_Five s (sending q i)
-  pub fields : Same_On (row (command i.request)).reads (sent_in i.request) (sent_in q)
+  pub first : PassesFive s i
+  pub second : PassesFive s (sending q i)
+  pub fields : SameOn (row (command i.request)).reads (sent_in i.request) (sent_in q)
 
 -- what n new hashes, at most ten, cost a card: one signature, and n hashes on the count
 pub record Cost (c c' : Card) (n : ℕ) : Type 0 where
@@ -159,14 +159,14 @@ pub record Forgotten (c c' : Card) : Type 0 where
   pub codes : c'.codes ≡ c.codes
 
 -- THE SIGN THAT A REPEAT TELLS AGAIN. The state and the history that events leave, from an image on
-abbrev pub state_after : Any_Card → List ℕ → List Event → State
+abbrev pub state_after : AnyCard → List ℕ → List Event → State
 state_after f m es = left f (holding m) es
 
-abbrev pub history_of : Any_Card → List ℕ → List Event → History
+abbrev pub history_of : AnyCard → List ℕ → List Event → History
 history_of f m es = played f (holding m) [] es
 
 -- where events `past` were followed by es: among es stands the SIGN that newly made these signatures, for the wallet that lives after them all
-pub record Made (f : Any_Card) (m : List ℕ) (past es : List Event) (signatures : List ℕ) : Type 0 where
+pub record Made (f : AnyCard) (m : List ℕ) (past es : List Event) (signatures : List ℕ) : Type 0 where
   pub before : List Event
   pub call : Call
   pub after : List Event
@@ -176,7 +176,7 @@ pub record Made (f : Any_Card) (m : List ℕ) (past es : List Event) (signatures
   pub told : signatures ≡ val Signature (told_in (tap_by f (state_after f m (past ++ before)) call).response)
 
 -- and rightfully; what is told again is what was newly given last
-pub record Original (f : Any_Card) (sh : Sheet) (m : List ℕ) (past es : List Event) (signatures : List ℕ) : Type 0 where
+pub record Original (f : AnyCard) (sh : Sheet) (m : List ℕ) (past es : List Event) (signatures : List ℕ) : Type 0 where
   pub told : signatures ≡ given (history_of f m (past ++ es))
   pub made : Made f m past es (given (history_of f m (past ++ es)))
   pub rightful :
@@ -189,7 +189,7 @@ abbrev pub woken_card : View → Card → Card
 woken_card v c = record { face = activated_face c.face; codes = activated_codes v c.codes }
 
 -- a note: WRITE_ISSUER_DATA with this counter, or one below it
-pub record Note_Up_To (n : ℕ) (i : Call) : Type 0 where
+pub record NoteUpTo (n : ℕ) (i : Call) : Type 0 where
   pub command : ins i.request ≡ code WriteIssuerData
   pub counter : sent_counter (sent_in i.request) ≤ n
 

@@ -31,7 +31,7 @@ use Rattle.manual.specs.Delay.{pace_by, pending_after}
 use Rattle.manual.specs.Settle.{State, Call, Posed, Settled, sent_in, matched, Said, pausing, leaving, paced_reason, paced_word, waiting, Off, off_by, powered_off}
 use Rattle.manual.specs.Settle.{silent, refused, answered, untouched, outcome, posed, posed_by, settled_by, lent, roomy}
 use Rattle.story.specs.Sums.{ins}
-use Rattle.history.specs.Demands.{Any_Card}
+use Rattle.history.specs.Demands.{AnyCard}
 
 -- THE INSIDE of a card: whether a request waits on a card that was read from its image; what is asked and said where it need not; and which card is left
 pub record Inside : Type 0 where
@@ -77,10 +77,10 @@ settles_outside test x s i =
     (untouched 2 i.buffers.out i.buffers.next))
     (untouched 1 i.buffers.out i.buffers.next)
 
-abbrev pub outside_by : (List ℕ → Bool) → Inside → Any_Card
+abbrev pub outside_by : (List ℕ → Bool) → Inside → AnyCard
 outside_by test x = record { taps = record { ask = asks_outside test x; settle = settles_outside test x }; power_off = powered_off }
 
-abbrev pub outside : Inside → Any_Card
+abbrev pub outside : Inside → AnyCard
 outside = outside_by is_card
 
 -- a card with these rows
@@ -117,7 +117,7 @@ abbrev pub honest : Inside
 honest = by_rows row
 
 -- 1. ANSWERS 6985 TO EVERYTHING (demand 2)
-abbrev pub refuser : Any_Card
+abbrev pub refuser : AnyCard
 refuser =
     outside
     (record {
@@ -132,13 +132,13 @@ refuser =
 abbrev pub yes : Face → Said
 yes f = record { number = 0; reason = 0; word = sw_process_completed; response = be2 sw_process_completed; face = f; executed = false }
 
-abbrev pub yes_sayer : Any_Card
+abbrev pub yes_sayer : AnyCard
 yes_sayer =
     outside
     (record { verdict = λ c q. passed q; pace = λ c q. Goes; asks = λ c q d. []; says = λ c q d a. yes c.face; leaves = λ c q s. c })
 
 -- 3. NEVER CHANGES THE IMAGE (demand 2)
-abbrev pub forgetter : Any_Card
+abbrev pub forgetter : AnyCard
 forgetter = outside (record { verdict = honest.verdict; pace = honest.pace; asks = honest.asks; says = honest.says; leaves = λ c q s. c })
 
 -- the rows, but for one
@@ -189,7 +189,7 @@ with_fields_out g r = with_columns r.reads r.conditions r.questions r.confirmed 
 abbrev pub kept_last : Face → Face → Face
 kept_last f g = cond (eqb f.last.count 0) g (with_last f.last g)
 
-abbrev pub repeater : Any_Card
+abbrev pub repeater : AnyCard
 repeater = outside (by_rows (but Sign (with_next (λ f v a. kept_last f (sign.next f v a)) sign)))
 
 -- 5. REPORTS A SIGNED_HASHES OF ITS OWN MAKING (demand 3), all else being right
@@ -198,14 +198,14 @@ boasting f =
     let w : Wallet = f.front.wallet in
     with_wallet (record { status = w.status; number = w.number; remaining = w.remaining; signed = 7 }) f
 
-abbrev pub proud : Any_Card
+abbrev pub proud : AnyCard
 proud = outside (by_rows (but ReadCard (with_fields_out (λ f v d a. read_fields (boasting f)) read_card)))
 
 -- 6. TAKES ANY NOTE, whatever its counter (demand 2), as the old practice card did
 abbrev pub old_rows : Command → Row
 old_rows = but WriteIssuerData (with_conditions (λ m f v. true) write_issuer_data)
 
-abbrev pub old_card : Any_Card
+abbrev pub old_card : AnyCard
 old_card = outside (by_rows old_rows)
 
 -- 7. TAKES A SIGNATURE OFF REMAINING PER HASH (demand 3)
@@ -215,18 +215,18 @@ spent_each n w = record { status = w.status; number = w.number; remaining = w.re
 abbrev pub signed_each : Face → ℕ → List ℕ → Face
 signed_each f n a = with_last (held_last a) (with_counters (risen f.front.counters) (with_wallet (spent_each n f.front.wallet) f))
 
-abbrev pub greedy : Any_Card
+abbrev pub greedy : AnyCard
 greedy = outside (by_rows (but Sign (with_next (λ f v a. cond (is_new v) (signed_each f (count v) a) f) sign)))
 
 -- 8. STORES THE NEW CODES BEFORE IT LOOKS WHETHER THEY MAY CHANGE (demand 3): a refused SET_PIN is in force
 abbrev pub hastily : Card → List ℕ → Said → Card
 hastily c q s = record { face = s.face; codes = cond (eqb (code (command q)) (code SetPin)) (new_codes (sent_in q)) c.codes }
 
-abbrev pub hasty : Any_Card
+abbrev pub hasty : AnyCard
 hasty = outside (record { verdict = honest.verdict; pace = honest.pace; asks = honest.asks; says = honest.says; leaves = hastily })
 
 -- 9. KEEPS THE PURGED KEY (demand 2)
-abbrev pub hoarder : Any_Card
+abbrev pub hoarder : AnyCard
 hoarder = outside (by_rows (but PurgeWallet (with_next (λ f v a. with_key f.front.key (purged_face f)) purge_wallet)))
 
 -- 10. ASKS FOR THE SIGNATURES of any new SIGN, whatever the codes (demand 3); what it says is right
@@ -234,7 +234,7 @@ abbrev pub eagerly : Card → List ℕ → List ℕ → List Question
 eagerly c q d =
     cond (eqb (ins q) (code Sign) && is_new (sent_in q)) (sign.questions c.face (sent_in q) d) (honest.asks c q d)
 
-abbrev pub eager : Any_Card
+abbrev pub eager : AnyCard
 eager = outside (record { verdict = honest.verdict; pace = honest.pace; asks = eagerly; says = honest.says; leaves = honest.leaves })
 
 -- 11. RISES FROM A PURGE (demand 3): VERIFY_CARD leaves it Loaded, with a key of its own making
@@ -243,11 +243,11 @@ arisen f =
     let w : Wallet = f.front.wallet in
     with_key (held_key (4 ∷ replicate 64 9)) (with_wallet (record { status = 2; number = w.number; remaining = w.remaining; signed = w.signed }) f)
 
-abbrev pub riser : Any_Card
+abbrev pub riser : AnyCard
 riser = outside (by_rows (but VerifyCard (with_next (λ f v a. cond (eqb f.front.wallet.status 3) (arisen f) f) verify_card)))
 
 -- 12. TELLS A PURGED CARD TO BE LOADED (demand 3)
-abbrev pub teller : Any_Card
+abbrev pub teller : AnyCard
 teller = outside (by_rows (but ReadCard (with_fields_out (λ f v d a. read_fields (cond (eqb f.front.wallet.status 3) (arisen f) f)) read_card)))
 
 -- 13. HAS THE PURGED WALLET SIGN (demand 3): VERIFY_CARD asks kind 3 in place of 4
@@ -257,23 +257,23 @@ forged f v d =
     (question 3 f.front.wallet.number f.front.fixed.curve (val Challenge v ∷ salt d ∷ []) ∷ [])
     (verify_card.questions f v d)
 
-abbrev pub forger : Any_Card
+abbrev pub forger : AnyCard
 forger = outside (by_rows (but VerifyCard (with_questions forged verify_card)))
 
 -- 14. SIGNS BY ANOTHER COMMAND (demand 3): VERIFY_CARD asks for the signature of a hash
-abbrev pub notary : Any_Card
+abbrev pub notary : AnyCard
 notary = outside (by_rows (but VerifyCard (with_questions (λ f v d. sign.questions f v d) verify_card)))
 
 -- 15. ASK SAYS 1234, whatever it is asked (demand 1)
-abbrev pub babbler : Any_Card
+abbrev pub babbler : AnyCard
 babbler = outside (record { verdict = λ c q. Stop 12 0x1234; pace = λ c q. Goes; asks = λ c q d. []; says = honest.says; leaves = honest.leaves })
 
 -- 16. SETTLE SAYS NUMBER 4, whatever it is answered (demand 1)
-abbrev pub stubborn : Any_Card
+abbrev pub stubborn : AnyCard
 stubborn = outside (record { verdict = honest.verdict; pace = honest.pace; asks = honest.asks; says = λ c q d a. silent 4 c.face; leaves = honest.leaves })
 
 -- 17. REFUSES WITH A WORD OF ITS OWN MAKING (demand 1): ask says 6A86 where settle says 6F00
-abbrev pub inventor : Any_Card
+abbrev pub inventor : AnyCard
 inventor = outside (record { verdict = honest.verdict; pace = honest.pace; asks = honest.asks; says = λ c q d a. refused 6 0x6F00 c.face; leaves = λ c q s. c })
 
 -- 18. KEEPS THE REASON TO ITSELF (demands 1 and 2), all else being right, as the card did until it told one
@@ -284,7 +284,7 @@ hushed (Stop n w) = Stop 0 w
 abbrev pub quietly : Said → Said
 quietly s = record { number = s.number; reason = 0; word = s.word; response = s.response; face = s.face; executed = s.executed }
 
-abbrev pub mute : Any_Card
+abbrev pub mute : AnyCard
 mute =
     outside
     (record {
@@ -306,7 +306,7 @@ abbrev pub unreasoned_settle : Settled → Settled
 unreasoned_settle x = settled_by (unreasoned x.result) x.response x.next
 
 -- 19. TAKES THE FIRST of two fields with one tag (demand 2), as the card did until it refused both
-abbrev pub first_taker : Any_Card
+abbrev pub first_taker : AnyCard
 first_taker = outside (by_rows (λ k. with_reads [] (row k)))
 
 -- 20. LEAVES A PURGED WALLET'S SIGNATURES TO THE NEXT ONE (demands 2 and 3), as the card did until a purge forgot them, with the tests of an image that
@@ -316,19 +316,19 @@ was_card img =
     let f : Face = (decode img).face in
     eqb (length img) image_size && every (ok_front f.front ∷ ok_held f.held ∷ ok_pending f.pending ∷ ok_last f.last ∷ [])
 
-abbrev pub heir : Any_Card
+abbrev pub heir : AnyCard
 heir = outside_by was_card (by_rows (but PurgeWallet (with_next (λ f v a. with_last f.last (purged_face f)) purge_wallet)))
 
 -- 21. ACTIVATES THOUGH THE ISSUER SAID NO (demand 3)
-abbrev pub credulous : Any_Card
+abbrev pub credulous : AnyCard
 credulous = outside (by_rows (but ActivateCard (with_confirmed (λ a. true) activate_card)))
 
 -- 22. RESETS PIN1 UNASKED (demand 3): with Reset_PIN1 0 too
-abbrev pub resetter : Any_Card
+abbrev pub resetter : AnyCard
 resetter = outside (by_rows (but ActivateCard (with_recode (λ v x. reset_pin1 x) activate_card)))
 
 -- a card that is right but for the pace
-abbrev pub by_pace : (Pace → Pace) → Any_Card
+abbrev pub by_pace : (Pace → Pace) → AnyCard
 by_pace change =
     outside
     (record {
@@ -345,7 +345,7 @@ goes_on (Refused b) = Refused b
 goes_on (Waits t) = Goes
 goes_on Goes = Goes
 
-abbrev pub hurried : Any_Card
+abbrev pub hurried : AnyCard
 hurried = by_pace goes_on
 
 -- 24. LETS A WAIT OF T SECONDS END AT SENDING T (demand 2)
@@ -354,7 +354,7 @@ sooner (Refused b) = Refused b
 sooner (Waits t) = cond (leb t 1) Goes (Waits t)
 sooner Goes = Goes
 
-abbrev pub impatient : Any_Card
+abbrev pub impatient : AnyCard
 impatient = by_pace sooner
 
 -- 25. COUNTS NO WRONG CODE (demand 2)
@@ -363,7 +363,7 @@ uncounted (Refused b) = Refused false
 uncounted (Waits t) = Waits t
 uncounted Goes = Goes
 
-abbrev pub trusting : Any_Card
+abbrev pub trusting : AnyCard
 trusting = by_pace uncounted
 
 -- 26. FORGETS THE WRONG CODES AT A POWER-OFF (demand 1)
@@ -373,5 +373,5 @@ forgets_off s nxt =
     (cond (leb image_room (length nxt)) (off_by 0 (encode (waiting no_pending (decode s.image)) ++ drop image_size nxt)) (off_by 2 nxt))
     (off_by 1 nxt)
 
-abbrev pub forgiving : Any_Card
+abbrev pub forgiving : AnyCard
 forgiving = record { taps = (outside honest).taps; power_off = forgets_off }

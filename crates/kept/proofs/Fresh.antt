@@ -13,7 +13,7 @@ use Rattle.card.specs.Layout.{most_pause}
 use Rattle.card.specs.Values.{no_wallet, no_key, no_block, no_issuer, no_last, fresh}
 use Rattle.card.specs.Image.{encode}
 use Rattle.card.specs.Valid.{curve_known, key_size, ok_flags, ok_key, ok_block, ok_issuer, ok_last, ok_face, is_card}
-use Rattle.card.specs.Shape.{Shape_Codes, Shape_Fixed}
+use Rattle.card.specs.Shape.{ShapeCodes, ShapeFixed}
 use Rattle.kept.proofs.Tests.{or_true, is_ranged, is_stated, is_valid}
 use Rattle.kept.proofs.Waits.{no_pending_ok}
 use Rattle.cards.proofs.Shape.{shape_fresh}
@@ -63,6 +63,6 @@ module _ (x : Fixed) (g : Flags) (k : Codes) where
 
   -- so its image is a card
   pub fresh_is_card :
-      Shape_Fixed x → Shape_Codes k → curve_known x ≡ true → 1 ≤ x.max → x.pause ≤ most_pause → ok_flags g ≡ true
+      ShapeFixed x → ShapeCodes k → curve_known x ≡ true → 1 ≤ x.max → x.pause ≤ most_pause → ok_flags g ≡ true
       → is_card (encode (fresh x g k)) ≡ true
   fresh_is_card fixed codes curve max pause flags = is_card_encode (fresh x g k) (shape_fresh x g k fixed codes) (fresh_ok curve max pause flags)

@@ -10,7 +10,7 @@ use Rattle.card.specs.Image.{encode, enc_codes, enc_front, enc_held, enc_face, e
 use Rattle.card.specs.Image.{enc_wallet, enc_key, enc_counters, enc_block, enc_issuer, enc_wait, enc_pending, enc_last, decode}
 use Rattle.card.specs.Valid.{is_card, ok_face, ok_front, ok_held, ok_flags, ok_ranges, ok_state, ok_key, key_size, ok_block, ok_issuer, ok_pending, ok_last}
 use Rattle.manual.specs.Words.{questions_room, response_room, draw_size}
-use Rattle.manual.specs.Tags.{CID, PIN1, Activation_Signature, Reset_PIN1}
+use Rattle.manual.specs.Tags.{CID, PIN1, ActivationSignature, ResetPIN1}
 use Rattle.manual.specs.Request.{lc_of, ins_of}
 use Rattle.manual.specs.Row.{plain, allowed, shaped, asked, each_asked}
 use Rattle.manual.specs.Wallet.{curve_name}
@@ -42,7 +42,7 @@ request ins fs =
     0 ∷ ins ∷ 0 ∷ 0 ∷ length p ∷ p
 
 abbrev activation : List ℕ
-activation = request 0xFE (fld Reset_PIN1 (1 ∷ []) ∷ fld Activation_Signature (replicate signature_size 0x11) ∷ [])
+activation = request 0xFE (fld ResetPIN1 (1 ∷ []) ∷ fld ActivationSignature (replicate signature_size 0x11) ∷ [])
 
 abbrev pub draw : List ℕ
 draw = replicate draw_size 0

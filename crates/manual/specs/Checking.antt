@@ -6,7 +6,7 @@ use Rattle.card.specs.declared.Face.{Face}
 use Rattle.card.specs.Layout.{signature_size, top16}
 use Rattle.card.specs.Values.{u16, checked_once, validated_once, key_of, with_counters}
 use Rattle.manual.specs.Tags.{CID, PIN1, PIN2}
-use Rattle.manual.specs.Tags.{Card_Signature, Public_Key_Challenge, Public_Key_Salt, Challenge, Salt, Card_Validation_Counter, Signature, Check_Wallet_Counter}
+use Rattle.manual.specs.Tags.{CardSignature, PublicKeyChallenge, PublicKeySalt, Challenge, Salt, CardValidationCounter, Signature, CheckWalletCounter}
 use Rattle.manual.specs.Row.{Question, question, Row, stays}
 
 -- a challenge, a salt
@@ -32,17 +32,17 @@ challenged v = eqb (length (val Challenge v)) salt_size
 
 -- F9 CHECK_WALLET. Public_Key_Challenge (14) of 0 or 16 bytes if present
 abbrev pub key_asked : View → Bool
-key_asked v = has Public_Key_Challenge v
+key_asked v = has PublicKeyChallenge v
 
 abbrev pub key_alone : View → Bool
-key_alone v = eqb (length (val Public_Key_Challenge v)) 0
+key_alone v = eqb (length (val PublicKeyChallenge v)) 0
 
 abbrev pub check_fields : View → Bool
-check_fields v = challenged v && (not (key_asked v) || (key_alone v || eqb (length (val Public_Key_Challenge v)) salt_size))
+check_fields v = challenged v && (not (key_asked v) || (key_alone v || eqb (length (val PublicKeyChallenge v)) salt_size))
 
 -- kind 4 on key, that challenge, key salt, or on the key alone when tag 14 is empty
 abbrev pub key_message : Face → View → List ℕ → List (List ℕ)
-key_message f v d = key_of f.front.key ∷ cond (key_alone v) [] (val Public_Key_Challenge v ∷ key_salt d ∷ [])
+key_message f v d = key_of f.front.key ∷ cond (key_alone v) [] (val PublicKeyChallenge v ∷ key_salt d ∷ [])
 
 abbrev pub check_questions : Face → View → List ℕ → List Question
 check_questions f v d =
@@ -52,8 +52,8 @@ check_questions f v d =
 -- with tag 14 also counter after rising, key salt unless tag 14 is empty, card signature
 abbrev pub key_fields : Face → View → List ℕ → List ℕ → List Tagged
 key_fields f v d a =
-    fld Check_Wallet_Counter (be4 f.front.counters.checks)
-    ∷ cond (key_alone v) (fld Card_Signature (signature2 a) ∷ []) (fld Public_Key_Salt (key_salt d) ∷ fld Card_Signature (signature2 a) ∷ [])
+    fld CheckWalletCounter (be4 f.front.counters.checks)
+    ∷ cond (key_alone v) (fld CardSignature (signature2 a) ∷ []) (fld PublicKeySalt (key_salt d) ∷ fld CardSignature (signature2 a) ∷ [])
 
 abbrev pub checked_fields : Face → View → List ℕ → List ℕ → List Tagged
 checked_fields f v d a = fld Salt (salt d) ∷ fld Signature (signature1 a) ∷ cond (key_asked v) (key_fields f v d a) []
@@ -61,7 +61,7 @@ checked_fields f v d a = fld Salt (salt d) ∷ fld Signature (signature1 a) ∷ 
 abbrev pub check_wallet : Row
 check_wallet =
     record {
-      reads = PIN1 ∷ CID ∷ Challenge ∷ Public_Key_Challenge ∷ [];
+      reads = PIN1 ∷ CID ∷ Challenge ∷ PublicKeyChallenge ∷ [];
       needs = record { cid = true; asleep = false; empty = false; loaded = true; purged = false; cvc = false };
       pin2 = λ v. false;
       fields = λ f v. check_fields v;
@@ -87,7 +87,7 @@ verify_card =
       confirmed = λ a. true;
       next = λ f v a. f;
       recode = stays;
-      fields_out = λ f v d a. fld Salt (salt d) ∷ fld Card_Signature (signature1 a) ∷ [];
+      fields_out = λ f v d a. fld Salt (salt d) ∷ fld CardSignature (signature1 a) ∷ [];
       more = λ m. 0;
     }
 
@@ -104,6 +104,6 @@ validate_card =
       confirmed = λ a. true;
       next = λ f v a. with_counters (validated_once f.front.counters) f;
       recode = stays;
-      fields_out = λ f v d a. fld Card_Validation_Counter (be2 f.front.counters.validations) ∷ fld Card_Signature (signature1 a) ∷ [];
+      fields_out = λ f v d a. fld CardValidationCounter (be2 f.front.counters.validations) ∷ fld CardSignature (signature1 a) ∷ [];
       more = λ m. 0;
     }

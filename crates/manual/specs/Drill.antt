@@ -14,7 +14,7 @@ use Rattle.card.specs.Image.{encode, enc_codes, enc_front, enc_held, enc_face, e
 use Rattle.card.specs.Image.{enc_wallet, enc_key, enc_counters, enc_block, enc_issuer, enc_wait, enc_pending, enc_last, decode}
 use Rattle.card.specs.Valid.{is_card, ok_face, ok_front, ok_held, ok_flags, ok_ranges, ok_state, ok_key, key_size, ok_block, ok_issuer, ok_pending, ok_last}
 use Rattle.manual.specs.Words.{response_room}
-use Rattle.manual.specs.Tags.{CID, PIN1, PIN2, Issuer_Data, Issuer_Data_Signature, Issuer_Data_Counter, Transaction_Hash, Transaction_Hash_Size}
+use Rattle.manual.specs.Tags.{CID, PIN1, PIN2, IssuerData, IssuerDataSignature, IssuerDataCounter, TransactionHash, TransactionHashSize}
 use Rattle.manual.specs.Row.{Matched}
 use Rattle.manual.specs.declared.Verdict.TheVariants.{Stop}
 use Rattle.manual.specs.Request.{lc_of, ins_of}
@@ -64,10 +64,10 @@ request ins fs =
 
 -- a note with a counter, and a SIGN over n hashes
 abbrev note : ℕ → List ℕ
-note n = request 0xF6 (fld Issuer_Data (0x4F ∷ 0x4B ∷ []) ∷ fld Issuer_Data_Signature (replicate signature_size 9) ∷ fld Issuer_Data_Counter (be4 n) ∷ [])
+note n = request 0xF6 (fld IssuerData (0x4F ∷ 0x4B ∷ []) ∷ fld IssuerDataSignature (replicate signature_size 9) ∷ fld IssuerDataCounter (be4 n) ∷ [])
 
 abbrev signing : ℕ → List ℕ
-signing size = request 0xFB (fld Transaction_Hash (replicate size 3) ∷ fld Transaction_Hash_Size (32 ∷ []) ∷ [])
+signing size = request 0xFB (fld TransactionHash (replicate size 3) ∷ fld TransactionHashSize (32 ∷ []) ∷ [])
 
 abbrev draw0 : List ℕ
 draw0 = replicate 32 0

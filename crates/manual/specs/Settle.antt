@@ -11,7 +11,7 @@ use Rattle.card.specs.Values.{faced, with_pending}
 use Rattle.card.specs.Image.{encode, decode}
 use Rattle.card.specs.Valid.{is_card}
 use Rattle.manual.specs.Words.{sw_process_completed, sw_error_processing_command, sw_need_pause, questions_room, response_room, draw_size}
-use Rattle.manual.specs.Tags.{CID, PIN1, PIN2, New_PIN1, New_PIN2}
+use Rattle.manual.specs.Tags.{CID, PIN1, PIN2, NewPIN1, NewPIN2}
 use Rattle.manual.specs.declared.Command.{Command}
 use Rattle.manual.specs.Row.{Matched}
 use Rattle.manual.specs.declared.Verdict.{Verdict}
@@ -57,8 +57,8 @@ matched x v =
     record {
       pin1 = holds PIN1 v x.pin1;
       pin2 = holds PIN2 v x.pin2;
-      new1 = holds New_PIN1 v x.pin1;
-      new2 = holds New_PIN2 v x.pin2;
+      new1 = holds NewPIN1 v x.pin1;
+      new2 = holds NewPIN2 v x.pin2;
     }
 
 -- what a request sends

@@ -8,7 +8,7 @@ use Rattle.card.specs.declared.Counters.{Counters}
 use Rattle.card.specs.Layout.{data_room, signature_size}
 use Rattle.card.specs.Values.{held_block, held_issuer, block_of, with_user, with_protected, with_counters, with_issuer}
 use Rattle.manual.specs.Tags.{CID, PIN1, PIN2}
-use Rattle.manual.specs.Tags.{Mode, User_Data, User_Protected_Data, User_Counter, User_Protected_Counter, Issuer_Data, Issuer_Data_Signature, Issuer_Data_Counter}
+use Rattle.manual.specs.Tags.{Mode, UserData, UserProtectedData, UserCounter, UserProtectedCounter, IssuerData, IssuerDataSignature, IssuerDataCounter}
 use Rattle.manual.specs.Row.{question, yes, Row, stays}
 
 -- a field with held data, only if not empty
@@ -28,9 +28,9 @@ read_user_data =
       confirmed = λ a. true;
       next = λ f v a. f;
       recode = stays;
-      fields_out = λ f v d a. held_field User_Data (block_of f.held.user)
-          ++ (held_field User_Protected_Data (block_of f.held.protected)
-          ++ (fld User_Counter (be4 f.front.counters.user) ∷ fld User_Protected_Counter (be4 f.front.counters.protected) ∷ []));
+      fields_out = λ f v d a. held_field UserData (block_of f.held.user)
+          ++ (held_field UserProtectedData (block_of f.held.protected)
+          ++ (fld UserCounter (be4 f.front.counters.user) ∷ fld UserProtectedCounter (be4 f.front.counters.protected) ∷ []));
       more = λ m. 0;
     }
 
@@ -48,10 +48,10 @@ abbrev pub number_sent : ℕ → View → Bool
 number_sent t v = not (has t v) || is_number (val t v)
 
 abbrev pub any_sent : View → Bool
-any_sent v = (has User_Data v || has User_Protected_Data v) || (has User_Counter v || has User_Protected_Counter v)
+any_sent v = (has UserData v || has UserProtectedData v) || (has UserCounter v || has UserProtectedCounter v)
 
 abbrev pub user_fields : View → Bool
-user_fields v = any_sent v && ((block_sent User_Data v && block_sent User_Protected_Data v) && (number_sent User_Counter v && number_sent User_Protected_Counter v))
+user_fields v = any_sent v && ((block_sent UserData v && block_sent UserProtectedData v) && (number_sent UserCounter v && number_sent UserProtectedCounter v))
 
 -- what is there is stored
 abbrev pub stored_block : ℕ → View → Block → Block
@@ -64,21 +64,21 @@ abbrev pub stored_counters : View → Counters → Counters
 stored_counters v x = record {
   checks = x.checks;
   validations = x.validations;
-  user = stored_number User_Counter v x.user;
-  protected = stored_number User_Protected_Counter v x.protected;
+  user = stored_number UserCounter v x.user;
+  protected = stored_number UserProtectedCounter v x.protected;
 }
 
 abbrev pub stored_face : Face → View → Face
 stored_face f v =
     with_counters (stored_counters v f.front.counters)
-    (with_protected (stored_block User_Protected_Data v f.held.protected) (with_user (stored_block User_Data v f.held.user) f))
+    (with_protected (stored_block UserProtectedData v f.held.protected) (with_user (stored_block UserData v f.held.user) f))
 
 abbrev pub write_user_data : Row
 write_user_data =
     record {
-      reads = PIN1 ∷ CID ∷ PIN2 ∷ User_Data ∷ User_Protected_Data ∷ User_Counter ∷ User_Protected_Counter ∷ [];
+      reads = PIN1 ∷ CID ∷ PIN2 ∷ UserData ∷ UserProtectedData ∷ UserCounter ∷ UserProtectedCounter ∷ [];
       needs = record { cid = true; asleep = false; empty = true; loaded = true; purged = false; cvc = false };
-      pin2 = λ v. has User_Protected_Data v || has User_Protected_Counter v;
+      pin2 = λ v. has UserProtectedData v || has UserProtectedCounter v;
       fields = λ f v. user_fields v;
       conditions = λ m f v. true;
       questions = λ f v d. [];
@@ -97,32 +97,32 @@ abbrev pub guarded : Face → Bool
 guarded f = eqb f.front.flags.replay 1
 
 abbrev pub sent_counter : View → ℕ
-sent_counter v = num32 (val Issuer_Data_Counter v) 0
+sent_counter v = num32 (val IssuerDataCounter v) 0
 
 -- the counter, if protected
 abbrev pub counter_bytes : Face → View → List ℕ
-counter_bytes f v = cond (guarded f) (val Issuer_Data_Counter v) []
+counter_bytes f v = cond (guarded f) (val IssuerDataCounter v) []
 
 -- 32 (1 to 512), 33 (64), with replay protection 35 (4)
 abbrev pub issuer_fields : Face → View → Bool
 issuer_fields f v =
-    mode_ok v && (is_data (val Issuer_Data v)
-    && (eqb (length (val Issuer_Data_Signature v)) signature_size && (not (guarded f) || is_number (val Issuer_Data_Counter v))))
+    mode_ok v && (is_data (val IssuerData v)
+    && (eqb (length (val IssuerDataSignature v)) signature_size && (not (guarded f) || is_number (val IssuerDataCounter v))))
 
 -- kind 5 on signature, CID, data, and the counter if protected
 abbrev pub issuer_message : Face → View → List (List ℕ)
-issuer_message f v = val Issuer_Data_Signature v ∷ f.front.fixed.cid ∷ val Issuer_Data v ∷ counter_bytes f v ∷ []
+issuer_message f v = val IssuerDataSignature v ∷ f.front.fixed.cid ∷ val IssuerData v ∷ counter_bytes f v ∷ []
 
 abbrev pub kept_counter : Face → View → ℕ
 kept_counter f v = cond (guarded f) (sent_counter v) f.held.issuer.counter
 
 abbrev pub issuer_face : Face → View → Face
-issuer_face f v = with_issuer (held_issuer (val Issuer_Data v) (val Issuer_Data_Signature v) (kept_counter f v)) f
+issuer_face f v = with_issuer (held_issuer (val IssuerData v) (val IssuerDataSignature v) (kept_counter f v)) f
 
 abbrev pub write_issuer_data : Row
 write_issuer_data =
     record {
-      reads = PIN1 ∷ CID ∷ Mode ∷ Issuer_Data ∷ Issuer_Data_Signature ∷ Issuer_Data_Counter ∷ [];
+      reads = PIN1 ∷ CID ∷ Mode ∷ IssuerData ∷ IssuerDataSignature ∷ IssuerDataCounter ∷ [];
       needs = record { cid = true; asleep = false; empty = true; loaded = true; purged = false; cvc = false };
       pin2 = λ v. false;
       fields = issuer_fields;
@@ -141,10 +141,10 @@ note_of f = block_of f.held.issuer.block
 
 abbrev pub note_fields : Face → List Tagged
 note_fields f =
-    cond (eqb (length (note_of f)) 0) [] (fld Issuer_Data (note_of f) ∷ fld Issuer_Data_Signature f.held.issuer.signature ∷ [])
+    cond (eqb (length (note_of f)) 0) [] (fld IssuerData (note_of f) ∷ fld IssuerDataSignature f.held.issuer.signature ∷ [])
 
 abbrev pub counter_field : Face → List Tagged
-counter_field f = cond (guarded f) (fld Issuer_Data_Counter (be4 f.held.issuer.counter) ∷ []) []
+counter_field f = cond (guarded f) (fld IssuerDataCounter (be4 f.held.issuer.counter) ∷ []) []
 
 abbrev pub read_issuer_data : Row
 read_issuer_data =

@@ -7,8 +7,8 @@ use Rattle.card.specs.declared.Codes.{Codes}
 use Rattle.card.specs.Layout.{pin_size, most_hashes, top16, top32}
 use Rattle.card.specs.Values.{u16, created, spent, purged, risen, held_key, held_last, key_of, last_of, with_wallet, with_key, with_counters, with_last}
 use Rattle.manual.specs.Words.{hash_size}
-use Rattle.manual.specs.Tags.{CID, Status, Curve_ID, PIN1, PIN2, New_PIN1, New_PIN2, CVC, Is_Activated, Activation_Seed}
-use Rattle.manual.specs.Tags.{Transaction_Hash, Transaction_Hash_Size, Wallet_Public_Key, Signature, Remaining, Signed_Hashes}
+use Rattle.manual.specs.Tags.{CID, Status, CurveID, PIN1, PIN2, NewPIN1, NewPIN2, CVC, IsActivated, ActivationSeed}
+use Rattle.manual.specs.Tags.{TransactionHash, TransactionHashSize, WalletPublicKey, Signature, Remaining, SignedHashes}
 use Rattle.manual.specs.declared.Signing.{Signing}
 use Rattle.manual.specs.declared.Signing.TheVariants.{New, Again}
 use Rattle.manual.specs.Row.{Question, question, Row, stays}
@@ -29,13 +29,13 @@ curve_name n = cond (eqb n 1) (0x73 ∷ 0x65 ∷ 0x63 ∷ 0x70 ∷ 0x32 ∷ 0x35
 -- F2 READ_CARD: Status; not activated: Is_Activated and the seed (02 Ask 1), and no more; else Curve_ID, Signed_Hashes, and when Loaded the key and
 -- Remaining
 abbrev pub wallet_fields : Face → List Tagged
-wallet_fields f = cond (is_loaded f) (fld Wallet_Public_Key (key_of f.front.key) ∷ fld Remaining (be4 f.front.wallet.remaining) ∷ []) []
+wallet_fields f = cond (is_loaded f) (fld WalletPublicKey (key_of f.front.key) ∷ fld Remaining (be4 f.front.wallet.remaining) ∷ []) []
 
 abbrev pub active_fields : Face → List Tagged
-active_fields f = fld Curve_ID (curve_name f.front.fixed.curve) ∷ fld Signed_Hashes (be4 f.front.wallet.signed) ∷ wallet_fields f
+active_fields f = fld CurveID (curve_name f.front.fixed.curve) ∷ fld SignedHashes (be4 f.front.wallet.signed) ∷ wallet_fields f
 
 abbrev pub asleep_fields : Face → List Tagged
-asleep_fields f = fld Is_Activated (be1 0) ∷ fld Activation_Seed f.front.fixed.seed ∷ []
+asleep_fields f = fld IsActivated (be1 0) ∷ fld ActivationSeed f.front.fixed.seed ∷ []
 
 abbrev pub read_fields : Face → List Tagged
 read_fields f = status_field f ∷ cond (is_active f) (active_fields f) (asleep_fields f)
@@ -72,21 +72,21 @@ create_wallet =
       confirmed = λ a. true;
       next = λ f v a. created_face f a;
       recode = stays;
-      fields_out = λ f v d a. status_field f ∷ fld Wallet_Public_Key (key_of f.front.key) ∷ [];
+      fields_out = λ f v d a. status_field f ∷ fld WalletPublicKey (key_of f.front.key) ∷ [];
       more = λ m. 0;
     }
 
 -- FA SET_PIN: New_PIN1 and New_PIN2, 32 bytes each; one that differs from the stored code may change; both are stored
 abbrev pub pin_fields : View → Bool
-pin_fields v = eqb (length (val New_PIN1 v)) pin_size && eqb (length (val New_PIN2 v)) pin_size
+pin_fields v = eqb (length (val NewPIN1 v)) pin_size && eqb (length (val NewPIN2 v)) pin_size
 
 abbrev pub new_codes : View → Codes
-new_codes v = record { pin1 = pad pin_size (val New_PIN1 v); pin2 = pad pin_size (val New_PIN2 v) }
+new_codes v = record { pin1 = pad pin_size (val NewPIN1 v); pin2 = pad pin_size (val NewPIN2 v) }
 
 abbrev pub set_pin : Row
 set_pin =
     record {
-      reads = PIN1 ∷ CID ∷ PIN2 ∷ CVC ∷ New_PIN1 ∷ New_PIN2 ∷ [];
+      reads = PIN1 ∷ CID ∷ PIN2 ∷ CVC ∷ NewPIN1 ∷ NewPIN2 ∷ [];
       needs = record { cid = true; asleep = false; empty = true; loaded = true; purged = false; cvc = true };
       pin2 = λ v. true;
       fields = λ f v. pin_fields v;
@@ -101,14 +101,14 @@ set_pin =
 
 -- FB SIGN: the hash array (50) and the hash size (51). Both absent: the last signatures again
 abbrev pub is_new : View → Bool
-is_new v = has Transaction_Hash v || has Transaction_Hash_Size v
+is_new v = has TransactionHash v || has TransactionHashSize v
 
 abbrev pub count : View → ℕ
-count v = length (val Transaction_Hash v) / hash_size
+count v = length (val TransactionHash v) / hash_size
 
 -- what it asks for
 unfoldable pub signing : View → Signing
-signing v = cond (is_new v) (New (length (val Transaction_Hash v))) Again
+signing v = cond (is_new v) (New (length (val TransactionHash v))) Again
 
 -- 1 to 10 hashes of 32 bytes
 abbrev pub hashes_ok : ℕ → Bool
@@ -116,7 +116,7 @@ hashes_ok n = eqb (n % hash_size) 0 && (leb 1 (n / hash_size) && leb (n / hash_s
 
 -- both present, size one byte 32
 abbrev pub sign_fields : View → Bool
-sign_fields v = cond (is_new v) (has Transaction_Hash v && (alike (val Transaction_Hash_Size v) (hash_size ∷ []) && hashes_ok (length (val Transaction_Hash v)))) true
+sign_fields v = cond (is_new v) (has TransactionHash v && (alike (val TransactionHashSize v) (hash_size ∷ []) && hashes_ok (length (val TransactionHash v)))) true
 
 -- kind 2 for each hash, in order
 unfoldable pub hash_questions : ℕ → ℕ → ℕ → List ℕ → List Question
@@ -133,17 +133,17 @@ sign_conditions f v = cond (is_new v) (ltb 0 f.front.wallet.remaining && leb (f.
 abbrev pub sign : Row
 sign =
     record {
-      reads = PIN1 ∷ CID ∷ PIN2 ∷ CVC ∷ Transaction_Hash ∷ Transaction_Hash_Size ∷ [];
+      reads = PIN1 ∷ CID ∷ PIN2 ∷ CVC ∷ TransactionHash ∷ TransactionHashSize ∷ [];
       needs = record { cid = true; asleep = false; empty = false; loaded = true; purged = false; cvc = true };
       pin2 = λ v. true;
       fields = λ f v. sign_fields v;
       conditions = λ m f v. sign_conditions f v;
-      questions = λ f v d. cond (is_new v) (hash_questions f.front.wallet.number f.front.fixed.curve (count v) (val Transaction_Hash v)) [];
+      questions = λ f v d. cond (is_new v) (hash_questions f.front.wallet.number f.front.fixed.curve (count v) (val TransactionHash v)) [];
       confirmed = λ a. true;
       next = λ f v a. cond (is_new v) (signed_face f (count v) a) f;
       recode = stays;
       fields_out = λ f v d a. fld Signature (last_of f.last) ∷ fld Remaining (be4 f.front.wallet.remaining)
-          ∷ fld Signed_Hashes (be4 f.front.wallet.signed) ∷ [];
+          ∷ fld SignedHashes (be4 f.front.wallet.signed) ∷ [];
       more = λ m. 0;
     }
 

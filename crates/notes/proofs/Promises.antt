@@ -1,5 +1,5 @@
 -- NO TWO OUTCOMES MEET A PROMISE of notes: a theorem about each public function's own contract. Assumes nothing.
-use Rattle.wire.specs.One_Outcome.{One_Outcome, plain}
+use Rattle.wire.specs.OneOutcome.{OneOutcome, plain}
 use Rattle.wire.proofs.Unique.{one_equal}
 use Rattle.notes.specs.contracts.nothing as nothing
 use Rattle.notes.specs.contracts.order_of as order_of
@@ -7,17 +7,17 @@ use Rattle.notes.specs.contracts.alike as alike
 use Rattle.notes.specs.contracts.is_good as is_good
 use Rattle.notes.specs.contracts.follows as follows
 
-pub nothing_one : One_Outcome nothing.ended (λ M. nothing.clauses {M = M})
+pub nothing_one : OneOutcome nothing.ended (λ M. nothing.clauses {M = M})
 nothing_one M 𝓤 𝓛 m r κs a g z z' ws ws' = plain 𝓤 (λ p q. one_equal p q)
 
-pub order_of_one : One_Outcome order_of.ended (λ M. order_of.clauses {M = M})
+pub order_of_one : OneOutcome order_of.ended (λ M. order_of.clauses {M = M})
 order_of_one M 𝓤 𝓛 m r κs a g z z' ws ws' = plain 𝓤 (λ p q. one_equal p q)
 
-pub alike_one : One_Outcome alike.ended (λ M. alike.clauses {M = M})
+pub alike_one : OneOutcome alike.ended (λ M. alike.clauses {M = M})
 alike_one M 𝓤 𝓛 m r κs a g z z' ws ws' = plain 𝓤 (λ p q. one_equal p q)
 
-pub is_good_one : One_Outcome is_good.ended (λ M. is_good.clauses {M = M})
+pub is_good_one : OneOutcome is_good.ended (λ M. is_good.clauses {M = M})
 is_good_one M 𝓤 𝓛 m r κs a g z z' ws ws' = plain 𝓤 (λ p q. one_equal p q)
 
-pub follows_one : One_Outcome follows.ended (λ M. follows.clauses {M = M})
+pub follows_one : OneOutcome follows.ended (λ M. follows.clauses {M = M})
 follows_one M 𝓤 𝓛 m r κs a g z z' ws ws' = plain 𝓤 (λ p q. one_equal p q)

@@ -1,6 +1,6 @@
 -- NO TWO OUTCOMES MEET A PROMISE of practice: a theorem about each public function's own contract. Assumes nothing.
 use mathlib.Core.Path.{sym, ◌∙◌}
-use Rattle.wire.specs.One_Outcome.{One_Outcome, plain}
+use Rattle.wire.specs.OneOutcome.{OneOutcome, plain}
 use Rattle.wire.proofs.Unique.{one_equal}
 use Rattle.practice.proofs.Unique.{one_settling, one_asking, one_switching}
 use Rattle.practice.specs.contracts.practice_personalise as practice_personalise
@@ -12,28 +12,28 @@ use Rattle.practice.specs.contracts.power_off as power_off
 use Rattle.practice.specs.contracts.practice_power_off as practice_power_off
 use Rattle.practice.specs.contracts.practice_image_length as practice_image_length
 
-pub practice_personalise_one : One_Outcome practice_personalise.ended (λ M. practice_personalise.clauses {M = M})
+pub practice_personalise_one : OneOutcome practice_personalise.ended (λ M. practice_personalise.clauses {M = M})
 practice_personalise_one M 𝓤 𝓛 m r κs a g z z' ws ws' = plain 𝓤 (λ p q. (p.0 ∙ sym q.0, λ i. (tt, ((p.1 ∙ sym q.1) i, tt))))
 
-pub ask_one : One_Outcome ask.ended (λ M. ask.clauses {M = M})
+pub ask_one : OneOutcome ask.ended (λ M. ask.clauses {M = M})
 ask_one M 𝓤 𝓛 m r κs a g z z' ws ws' = plain 𝓤 (λ p q. let e = one_asking p q in (e.0, λ i. (tt, (tt, (tt, (e.1 i, tt))))))
 
-pub practice_ask_one : One_Outcome practice_ask.ended (λ M. practice_ask.clauses {M = M})
+pub practice_ask_one : OneOutcome practice_ask.ended (λ M. practice_ask.clauses {M = M})
 practice_ask_one M 𝓤 𝓛 m r κs a g z z' ws ws' = plain 𝓤 (λ p q. let e = one_asking p q in (e.0, λ i. (tt, (tt, (tt, (e.1 i, tt))))))
 
-pub settle_one : One_Outcome settle.ended (λ M. settle.clauses {M = M})
+pub settle_one : OneOutcome settle.ended (λ M. settle.clauses {M = M})
 settle_one M 𝓤 𝓛 m r κs a g z z' ws ws' =
     plain 𝓤 (λ p q. let e = one_settling p q in (e.0, λ i. (tt, (tt, (tt, (tt, (e.1 i, (e.2 i, tt))))))))
 
-pub practice_settle_one : One_Outcome practice_settle.ended (λ M. practice_settle.clauses {M = M})
+pub practice_settle_one : OneOutcome practice_settle.ended (λ M. practice_settle.clauses {M = M})
 practice_settle_one M 𝓤 𝓛 m r κs a g z z' ws ws' =
     plain 𝓤 (λ p q. let e = one_settling p q in (e.0, λ i. (tt, (tt, (tt, (tt, (e.1 i, (e.2 i, tt))))))))
 
-pub power_off_one : One_Outcome power_off.ended (λ M. power_off.clauses {M = M})
+pub power_off_one : OneOutcome power_off.ended (λ M. power_off.clauses {M = M})
 power_off_one M 𝓤 𝓛 m r κs a g z z' ws ws' = plain 𝓤 (λ p q. let e = one_switching p q in (e.0, λ i. (tt, (e.1 i, tt))))
 
-pub practice_power_off_one : One_Outcome practice_power_off.ended (λ M. practice_power_off.clauses {M = M})
+pub practice_power_off_one : OneOutcome practice_power_off.ended (λ M. practice_power_off.clauses {M = M})
 practice_power_off_one M 𝓤 𝓛 m r κs a g z z' ws ws' = plain 𝓤 (λ p q. let e = one_switching p q in (e.0, λ i. (tt, (e.1 i, tt))))
 
-pub practice_image_length_one : One_Outcome practice_image_length.ended (λ M. practice_image_length.clauses {M = M})
+pub practice_image_length_one : OneOutcome practice_image_length.ended (λ M. practice_image_length.clauses {M = M})
 practice_image_length_one M 𝓤 𝓛 m r κs a g z z' ws ws' = plain 𝓤 (λ p q. one_equal p q)

@@ -15,9 +15,9 @@ use Rattle.shelf.specs.declared.Outcome.TheVariants.{Done, BadLine, Clash, Full,
 use Rattle.shelf.specs.Shelf.{most}
 use Rattle.noteline.proofs.Laws.{three_digits, five_digits}
 use Rattle.union.specs.Union.{merged}
-use Rattle.booktext.specs.BookText.{Meaning, Book, Bad_At, meaning, text_room}
+use Rattle.booktext.specs.BookText.{Meaning, Book, BadAt, meaning, text_room}
 use Rattle.handed.specs.Handed.{told, outcome_of, union_of, printed, handed_parts, handed_text}
-use Rattle.agreed.specs.Agreed.{Bad_Record}
+use Rattle.agreed.specs.Agreed.{BadRecord}
 use Rattle.agreed.proofs.Books.{first_bad_lem}
 use Rattle.agreed.proofs.Means.{bad_means, lowest_clash}
 use Rattle.spelled.proofs.Book.{means_a_book, means_ranges}
@@ -42,17 +42,17 @@ same_bad e = (cc, cc)
 module _ (s t : List ℕ) where
   bad_from_lem : (m n : Meaning) → meaning s ≡ m → meaning t ≡ n → (b k : ℕ) → outcome_of m n ≡ BadLine b k → (1 ≤ b) × (b ≤ 2) × (1 ≤ k) × (k ≤ 257)
   unfolding outcome_of
-  bad_from_lem (Bad_At j) n p q b k e =
+  bad_from_lem (BadAt j) n p q b k e =
       let z = same_bad e in
       let h = bad_line_is_first s j p in
       (omega (arith, z), omega (arith, z), omega (arith, z, h), omega (arith, z, h))
-  bad_from_lem (Book f) (Bad_At j) p q b k e =
+  bad_from_lem (Book f) (BadAt j) p q b k e =
       let z = same_bad e in
       let h = bad_line_is_first t j q in
       (omega (arith, z), omega (arith, z), omega (arith, z, h), omega (arith, z, h))
   bad_from_lem (Book f) (Book g) p q b k e = absurd (go (bad_means most f g b k e))
     where
-      go : Bad_Record f g b k → ⊥
+      go : BadRecord f g b k → ⊥
       go (inl h) = h.2 (sym h.1 ∙ first_bad_lem f (means_a_book s f p))
       go (inr h) = h.3 (sym h.2 ∙ first_bad_lem g (means_a_book t g q))
 
@@ -62,8 +62,8 @@ module _ (s t : List ℕ) where
 
   clash_from : (m n : Meaning) → meaning s ≡ m → (c k : ℕ) → outcome_of m n ≡ Clash c k → (c < 256) × (k < 65536)
   unfolding outcome_of
-  clash_from (Bad_At j) n p c k e = absurd (bad_not_clash e)
-  clash_from (Book f) (Bad_At j) p c k e = absurd (bad_not_clash e)
+  clash_from (BadAt j) n p c k e = absurd (bad_not_clash e)
+  clash_from (Book f) (BadAt j) p c k e = absurd (bad_not_clash e)
   clash_from (Book f) (Book g) p c k e =
       let l = (lowest_clash most f g c k e).1 in
       let r = of_each f (means_ranges s f p) l.x l.clash.first in
@@ -87,8 +87,8 @@ module _ (s t : List ℕ) where
   -- A BOOK is no longer than the longest
   done_from : (m n : Meaning) → meaning s ≡ m → meaning t ≡ n → (k : ℕ) → outcome_of m n ≡ Done k → length (handed_text m n) ≤ 19968
   unfolding outcome_of
-  done_from (Bad_At j) n p q k e = absurd (bad_not_done e)
-  done_from (Book f) (Bad_At j) p q k e = absurd (bad_not_done e)
+  done_from (BadAt j) n p q k e = absurd (bad_not_done e)
+  done_from (Book f) (BadAt j) p q k e = absurd (bad_not_done e)
   done_from (Book f) (Book g) p q k e =
       rw (done_print f g k e) (longest_book (merged f g) (union_book f g k e) (union_ranges f g k e (means_ranges s f p) (means_ranges t g q)))
 

@@ -15,7 +15,7 @@ use Rattle.notes.specs.Notes.{blank, follows}
 use Rattle.shelf.specs.declared.Outcome.{Outcome}
 use Rattle.shelf.specs.declared.Outcome.TheVariants.{Done, BadLine, Clash, Full, NoRoom}
 use Rattle.noteline.specs.NoteLine.{valued, fields_of, note_at}
-use Rattle.booktext.specs.BookText.{Meaning, Book, Bad_At, meaning}
+use Rattle.booktext.specs.BookText.{Meaning, Book, BadAt, meaning}
 use Rattle.handed.specs.Handed.{outcome_of, union_of, printed, handed_parts, handed_text}
 use Rattle.notes.proofs.Laws.{blank_bad}
 use Rattle.agreed.proofs.Means.{no_room_means}
@@ -49,18 +49,18 @@ module _ (b : ℕ) (s : List ℕ) (d : is_digit b ≡ false) (p : eqb b 9 ≡ fa
   unfolding follows
   no_follower = rw (no_note, blank_bad)
 
-  pub no_first_line : meaning (b ∷ s) ≡ Bad_At 1
+  pub no_first_line : meaning (b ∷ s) ≡ BadAt 1
   unfolding meaning
   no_first_line = notes_bad 255 1 blank b s no_follower
 
 -- A REFUSAL IS NO BOOK
-refused_print : (o : Outcome) (l : List Note) → Refused o → meaning (joined (printed o l)) ≡ Bad_At 1
+refused_print : (o : Outcome) (l : List Note) → Refused o → meaning (joined (printed o l)) ≡ BadAt 1
 unfolding printed joined is_digit
 refused_print o l bad = no_first_line 108 _ refl refl refl
 refused_print o l clash = no_first_line 99 _ refl refl refl
 refused_print o l full = no_first_line 102 _ refl refl refl
 
-pub refusal_is_no_book : (m n : Meaning) → Refused (outcome_of m n) → meaning (handed_text m n) ≡ Bad_At 1
+pub refusal_is_no_book : (m n : Meaning) → Refused (outcome_of m n) → meaning (handed_text m n) ≡ BadAt 1
 unfolding handed_text handed_parts
 refusal_is_no_book m n r = refused_print (outcome_of m n) (union_of m n) r
 
@@ -77,8 +77,8 @@ bad_not_room e = let z : ◌≡◌ {A = ℕ} 0 1 = cc in omega arith
 -- NO ROOM never comes up
 pub never_no_room : (m n : Meaning) → outcome_of m n ≡ NoRoom → ⊥
 unfolding outcome_of
-never_no_room (Bad_At k) n e = bad_not_room e
-never_no_room (Book f) (Bad_At k) e = bad_not_room e
+never_no_room (BadAt k) n e = bad_not_room e
+never_no_room (Book f) (BadAt k) e = bad_not_room e
 never_no_room (Book f) (Book s) e = let h : 256 < 256 = (no_room_means 256 f s).0 e in omega arith
 
 -- so the outcome is done, or a refusal

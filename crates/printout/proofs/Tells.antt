@@ -14,11 +14,11 @@ use Rattle.text.proofs.LineLaws.{other, all_other, head_past, tail_past}
 use Rattle.notes.specs.declared.Note.{Note}
 use Rattle.shelf.specs.declared.Outcome.{Outcome}
 use Rattle.shelf.specs.declared.Outcome.TheVariants.{Done, BadLine, Clash}
-use Rattle.booktext.specs.BookText.{Meaning, Book, Bad_At, meaning}
+use Rattle.booktext.specs.BookText.{Meaning, Book, BadAt, meaning}
 use Rattle.handed.specs.Handed.{told, outcome_of, union_of, printed, handed_parts, handed_text}
 use Rattle.agreed.proofs.Theorems.{each_once}
 use Rattle.spelled.proofs.Book.{no_book, same_book, means_ranges}
-use Rattle.printout.specs.Printout.{Refused, bad, clash, full, print_of, Printed_Book}
+use Rattle.printout.specs.Printout.{Refused, bad, clash, full, print_of, PrintedBook}
 use Rattle.printout.proofs.Refusals.{bad_not_done, refusal_is_no_book, done_or_refused}
 use Rattle.printout.proofs.Theorems.{union_back}
 
@@ -28,14 +28,14 @@ module _ (s t : List ℕ) where
   done_means_book : (m n : Meaning) → meaning s ≡ m → meaning t ≡ n → (k : ℕ) → outcome_of m n ≡ Done k
       → (meaning (handed_text m n) ≡ Book (union_of m n)) × (k ≡ length (union_of m n))
   unfolding outcome_of union_of
-  done_means_book (Bad_At j) n p q k e = absurd (bad_not_done e)
-  done_means_book (Book f) (Bad_At j) p q k e = absurd (bad_not_done e)
+  done_means_book (BadAt j) n p q k e = absurd (bad_not_done e)
+  done_means_book (Book f) (BadAt j) p q k e = absurd (bad_not_done e)
   done_means_book (Book f) (Book g) p q k e = (union_back f g k e (means_ranges s f p) (means_ranges t g q), (each_once 256 f g k e).1)
 
-  pub print_tells : (l : List Note) → meaning (print_of s t) ≡ Book l → Printed_Book s t l
+  pub print_tells : (l : List Note) → meaning (print_of s t) ≡ Book l → PrintedBook s t l
   print_tells l e = go (done_or_refused (meaning s) (meaning t))
     where
-      go : ((k : ℕ) × (outcome_of (meaning s) (meaning t) ≡ Done k)) ⊎ Refused (outcome_of (meaning s) (meaning t)) → Printed_Book s t l
+      go : ((k : ℕ) × (outcome_of (meaning s) (meaning t) ≡ Done k)) ⊎ Refused (outcome_of (meaning s) (meaning t)) → PrintedBook s t l
       go (inl h) =
           let b = done_means_book (meaning s) (meaning t) refl refl h.0 h.1 in
           let z : union_of (meaning s) (meaning t) ≡ l = same_book (sym b.0 ∙ e) in
@@ -43,7 +43,7 @@ module _ (s t : List ℕ) where
       go (inr r) = absurd (no_book (sym (refusal_is_no_book (meaning s) (meaning t) r) ∙ e))
 
   -- and back
-  pub joined_means : (l : List Note) → Printed_Book s t l → meaning (print_of s t) ≡ Book l
+  pub joined_means : (l : List Note) → PrintedBook s t l → meaning (print_of s t) ≡ Book l
   joined_means l j = (done_means_book (meaning s) (meaning t) refl refl (length l) j.outcome).0 ∙ ap Book j.union
 
 -- TWO LINES OF REFUSALS that are the same: the numbers are read back

@@ -25,6 +25,6 @@ pub record Again (f g : List Note) : Type 0 where
   pub second_with : handed_text (Book g) (Book (merged f g)) ≡ text_of (merged f g)
 
 -- A PRINT THAT IS THE BOOK l: the join is done, and l is the union
-pub record Printed_Book (s t : List ℕ) (l : List Note) : Type 0 where
+pub record PrintedBook (s t : List ℕ) (l : List Note) : Type 0 where
   pub outcome : outcome_of (meaning s) (meaning t) ≡ Done (length l)
   pub union : union_of (meaning s) (meaning t) ≡ l

@@ -2,21 +2,21 @@
 use Prim.Native.Nat.{ℕ}
 use mathlib.Core.Path.{refl, sym, ◌∙◌}
 use mathlib.Core.List.{List}
-use Rattle.wire.specs.One_Outcome.{One_Outcome, One_Seen, plain}
+use Rattle.wire.specs.OneOutcome.{OneOutcome, OneSeen, plain}
 use Rattle.wire.proofs.Unique.{one_equal}
 use Rattle.reader.specs.contracts.new as new
 use Rattle.reader.specs.contracts.next as next
 use Rattle.reader.specs.contracts.step as step
 use Rattle.reader.specs.contracts.value as value
 
-pub new_one : One_Outcome new.ended (λ M. new.clauses {M = M})
+pub new_one : OneOutcome new.ended (λ M. new.clauses {M = M})
 new_one M 𝓤 𝓛 m r κs a g z z' ws ws' = plain 𝓤 (λ p q. (λ i. record { src = (p.0 ∙ sym q.0) i; at = (p.1 ∙ sym q.1) i }, refl))
 
-pub next_one : One_Outcome next.ended (λ M. next.clauses {M = M})
+pub next_one : OneOutcome next.ended (λ M. next.clauses {M = M})
 next_one M 𝓤 𝓛 m r κs a g z z' ws ws' = plain 𝓤 (λ p q. one_equal p q)
 
-pub step_one : One_Outcome step.ended (λ M. step.clauses {M = M})
+pub step_one : OneOutcome step.ended (λ M. step.clauses {M = M})
 step_one M 𝓤 𝓛 m r κs a g z z' ws ws' = plain 𝓤 (λ p q. one_equal p q)
 
-pub value_one : One_Seen value.ended (λ M. value.clauses {M = M}) (List ℕ) (λ κs z. z.now)
+pub value_one : OneSeen value.ended (λ M. value.clauses {M = M}) (List ℕ) (λ κs z. z.now)
 value_one M 𝓤 𝓛 m r κs a g z z' ws ws' = plain 𝓤 (λ p q. one_equal p q)

@@ -23,7 +23,7 @@ use Rattle.sheets_back.proofs.Good.{sheet_is_card}
 use Rattle.manual.specs.Settle.{holding, Call}
 use Rattle.story.specs.Sums.{Sheet, History, is_done, accepted, status, made}
 use Rattle.story.specs.Buffers.{response}
-use Rattle.history.specs.Demands.{Any_Card, Demand2, Event, tapped, image_by, left, played, Fresh, Kept}
+use Rattle.history.specs.Demands.{AnyCard, Demand2, Event, tapped, image_by, left, played, Fresh, Kept}
 use Rattle.history.specs.Facts.{Stays}
 use Rattle.history.proofs.Choice.{clash}
 use Rattle.history.proofs.Events.{played_more, left_more}
@@ -38,7 +38,7 @@ use Rattle.recorded.specs.Facts.{events, sheet_of, sums_of}
 use Rattle.recorded.proofs.Counted.{counted_more, sums_fit}
 
 -- A TAP is a call of settle, on any card that meets demand 2
-module _ (f : Any_Card) (h : Demand2 f) where
+module _ (f : AnyCard) (h : Demand2 f) where
   -- what is settled for a tap is what the card's settle gives
   pub tap_settles : (m : List ℕ) (t : Recorded) → settled_for m t ≡ f.taps.settle (holding m) (call_of t)
   tap_settles m t = sym (h.settles (holding m) (call_of t))
@@ -57,7 +57,7 @@ model_leaves p [] = refl
 model_leaves p (t ∷ ts) = model_leaves (after_tap p t) ts
 
 -- THE CARD AFTER TAPS, any number of them, is what the calls leave, one after the other
-pub taps_leave : (f : Any_Card) → Demand2 f → (p : Played) (ts : List Recorded) → (after_taps p ts).image ≡ (left f (holding p.image) (events ts)).image
+pub taps_leave : (f : AnyCard) → Demand2 f → (p : Played) (ts : List Recorded) → (after_taps p ts).image ≡ (left f (holding p.image) (events ts)).image
 taps_leave = every (λ f. (p : Played) (ts : List Recorded) → (after_taps p ts).image ≡ (left f (holding p.image) (events ts)).image) model_leaves
 
 -- A GOOD SHEET gives a fresh card
@@ -111,7 +111,7 @@ module _ (sh : Sheet) (m : List ℕ) (e : Fresh sh m) (x : sh.fixed.max ≤ top3
 
 -- for every good sheet and all taps, on any card that meets demand 2: whether a wallet lives, its new SIGNs and all new hashes are those that the history shows
 pub sums_of_history :
-    (f : Any_Card) → Demand2 f → (s : List ℕ) → first_bad s ≡ 0 → (ts : List Recorded)
+    (f : AnyCard) → Demand2 f → (s : List ℕ) → first_bad s ≡ 0 → (ts : List Recorded)
     → (after_taps (begun s) ts).sums ≡ sums_of (sheet_of s) (played f (holding (encode (sheet_card s))) [] (events ts))
 sums_of_history =
     every
@@ -122,7 +122,7 @@ sums_of_history =
 
 -- so the live wallet's new SIGNs are the history's, and none where no wallet lives
 pub live_signs_of_history :
-    (f : Any_Card) → Demand2 f → (s : List ℕ) → first_bad s ≡ 0 → (ts : List Recorded)
+    (f : AnyCard) → Demand2 f → (s : List ℕ) → first_bad s ≡ 0 → (ts : List Recorded)
     → (let h : History = played f (holding (encode (sheet_card s))) [] (events ts) in
     live_signs (after_taps (begun s) ts).sums ≡ cond (eqb (status (sheet_of s) h) 2) (made h) 0)
 live_signs_of_history f h s e ts = ap live_signs (sums_of_history f h s e ts)

@@ -12,7 +12,7 @@ use Rattle.card.specs.Layout.{image_room, pending_at}
 use Rattle.card.specs.Image.{encode, decode}
 use Rattle.manual.specs.declared.Command.TheVariants.{ReadCard}
 use Rattle.manual.specs.Settle.{State, holding, Call, waiting, over}
-use Rattle.history.specs.Demands.{Demand1, Demand2, Turned_Off, off, only_counted, taps_of, left}
+use Rattle.history.specs.Demands.{Demand1, Demand2, TurnedOff, off, only_counted, taps_of, left}
 use Rattle.history.specs.Wrong.{hurried, impatient, trusting, forgiving}
 use Rattle.history.proofs.Choice.{both_true}
 use Rattle.history.proofs.Images.{model}
@@ -54,7 +54,7 @@ pub forgiving_rejected : Demand1 forgiving → ⊥
 unfolding run
 forgiving_rejected h = go (h.turns_off guessed (replicate image_room 0) (all_bytes guessed.image refl) refl)
   where
-    go : Turned_Off guessed (replicate image_room 0) (forgiving.power_off guessed (replicate image_room 0)) → ⊥
+    go : TurnedOff guessed (replicate image_room 0) (forgiving.power_off guessed (replicate image_room 0)) → ⊥
     go (off m' b e) =
         let x : m' ≡ encode (waiting (only_counted 1) (decode guessed.image)) = b.bytes refl (all_bytes guessed.image refl) in
         let z : ◌≡◌ {A = ℕ} 0 1 = ap (λ y. get_or y.next pending_at 0) e ∙ ap (λ l. get_or (over l (replicate image_room 0)) pending_at 0) x in

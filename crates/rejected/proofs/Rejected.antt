@@ -13,7 +13,7 @@ use Rattle.card.specs.declared.Card.{Card}
 use Rattle.card.specs.Layout.{pin_size, signature_size, wallet_at, key_at, last_at}
 use Rattle.card.specs.Image.{decode}
 use Rattle.manual.specs.Words.{sw_process_completed, sw_need_pause, questions_room}
-use Rattle.manual.specs.Tags.{New_PIN1, New_PIN2, Challenge}
+use Rattle.manual.specs.Tags.{NewPIN1, NewPIN2, Challenge}
 use Rattle.manual.specs.declared.Command.TheVariants.{ReadCard, SetPin, Sign, VerifyCard}
 use Rattle.manual.specs.declared.Verdict.{Verdict}
 use Rattle.manual.specs.declared.Verdict.TheVariants.{Pass, Stop}
@@ -25,7 +25,7 @@ use Rattle.manual.specs.Commands.{row}
 use Rattle.manual.specs.Settle.{State, holding, Call, Posed, sent_in, matched, said, said_by, questions_of, pace_of, paced, paced_questions}
 use Rattle.manual.specs.Settle.{settled, settled_of, asked_for, asked_of}
 use Rattle.manual.specs.Settle.{judged_by as judgement}
-use Rattle.history.specs.Demands.{Any_Card, is_refusal, Asked, none_asked, all_asked, must_wait, Demand1, Demand2}
+use Rattle.history.specs.Demands.{AnyCard, is_refusal, Asked, none_asked, all_asked, must_wait, Demand1, Demand2}
 use Rattle.history.specs.Demands.{taps_of, left, Asks, nothing, due, all_kinds, Poses, Demand3}
 use Rattle.history.specs.Wrong.{asks_at, outside, judged_by, paced_by, asks_by, says_by, honest}
 use Rattle.history.specs.Wrong.{refuser, yes_sayer, forgetter, repeater, proud, old_card, greedy, hasty, hoarder}
@@ -73,7 +73,7 @@ honest_accepted =
 abbrev after0 : List Call → State
 after0 is = left model (holding image0) (taps_of is)
 
-by_manual : {f : Any_Card} → Demand2 f → (is : List Call) (i : Call) → f.taps.settle (after0 is) i ≡ settled (after0 is) i
+by_manual : {f : AnyCard} → Demand2 f → (is : List Call) (i : Call) → f.taps.settle (after0 is) i ≡ settled (after0 is) i
 by_manual h is i = h.settles (after0 is) i
 
 -- 1. answers 6985 to everything: READ_CARD's response begins with CID
@@ -138,7 +138,7 @@ greedy_rejected h =
 pub hasty_rejected : Demand3 hasty → ⊥
 unfolding run
 hasty_rejected h =
-    let setting : Call = ask0 SetPin (fld New_PIN1 codes1.pin1 ∷ fld New_PIN2 codes1.pin2 ∷ []) [] in
+    let setting : Call = ask0 SetPin (fld NewPIN1 codes1.pin1 ∷ fld NewPIN2 codes1.pin2 ∷ []) [] in
     let signing : Call = call (request codes1 Sign (hashes 1 5)) (replicate signature_size 5) in
     clash ((h.next sheet0 image0 fresh0 (taps_of (creates ∷ setting ∷ [])) signing).signs refl).is_due.entitled.pin1 refl
 
@@ -256,7 +256,7 @@ pub first_taker_rejected : Demand2 first_taker → ⊥
 unfolding run
 first_taker_rejected h =
     let setting : Call =
-    ask0 SetPin (fld New_PIN1 sheet0.codes.pin1 ∷ fld New_PIN2 (replicate pin_size 8) ∷ fld New_PIN2 codes1.pin2 ∷ []) [] in
+    ask0 SetPin (fld NewPIN1 sheet0.codes.pin1 ∷ fld NewPIN2 (replicate pin_size 8) ∷ fld NewPIN2 codes1.pin2 ∷ []) [] in
     let e : ◌≡◌ {A = ℕ} 0x01 0x6A = ap (λ z. get_or z.response 0 0) (by_manual h [] setting) in
     absurd (omega arith)
 

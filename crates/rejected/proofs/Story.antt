@@ -14,8 +14,8 @@ use Rattle.card.specs.Image.{enc_front, enc_held, enc_face, decode}
 use Rattle.card.specs.Valid.{is_card, ok_face, ok_front, ok_held, ok_flags, ok_ranges, ok_state, ok_key, key_size, ok_block, ok_issuer, ok_pending, ok_last}
 use Rattle.card.specs.Values.{default_pin1, fresh, key_of, block_of, request_of, last_of}
 use Rattle.manual.specs.Words.{questions_room, response_room, draw_size, hash_size}
-use Rattle.manual.specs.Tags.{CID, PIN1, PIN2, Challenge, Activation_Signature, Reset_PIN1}
-use Rattle.manual.specs.Tags.{Issuer_Data, Issuer_Data_Signature, Issuer_Data_Counter, Transaction_Hash, Transaction_Hash_Size}
+use Rattle.manual.specs.Tags.{CID, PIN1, PIN2, Challenge, ActivationSignature, ResetPIN1}
+use Rattle.manual.specs.Tags.{IssuerData, IssuerDataSignature, IssuerDataCounter, TransactionHash, TransactionHashSize}
 use Rattle.manual.specs.declared.Command.{Command}
 use Rattle.manual.specs.declared.Command.TheVariants.{ReadCard, CreateWallet, Sign, VerifyCard, PurgeWallet, WriteIssuerData, ActivateCard}
 use Rattle.manual.specs.Request.{code, lc_of, ins_of}
@@ -26,11 +26,11 @@ use Rattle.manual.specs.Delay.{pace_by, is_held}
 use Rattle.manual.specs.Settle.{State, holding, Call, sent_in, judged_by, said, pace_of, paced, done, answered, lent, settled_of, settled, Settled, roomy}
 use Rattle.manual.specs.Settle.{asked_of, asked_for}
 use Rattle.story.specs.Sums.{Sheet, History, accepted, active, codes, made, total, wallets, status, ever_purged}
-use Rattle.history.specs.Demands.{Any_Card, given, taps_of, left, played, Fresh}
+use Rattle.history.specs.Demands.{AnyCard, given, taps_of, left, played, Fresh}
 use Rattle.history.proofs.Images.{model}
 
 -- a call as it runs: to unfold this is to unfold all that a call computes with
-unfoldable pub run : Any_Card → State → Call → Settled
+unfoldable pub run : AnyCard → State → Call → Settled
 unfolding settled settled_of lent paced pace_of pace_by is_held said judged_by sent_in view_of answered done roomy asked_for asked_of asked each_asked accepted
     lc_of ins_of plain allowed shaped well_formed holds has val twice rest_from run_n step_at field_at written each joined tlv head_of part put room fit placed
     alike all_zero fresh key_of block_of request_of last_of curve_name hash_questions encode enc_codes enc_front enc_held enc_face enc_fixed enc_flags enc_wallet
@@ -112,7 +112,7 @@ creates = ask0 CreateWallet [] (4 ∷ replicate 64 9)
 
 -- so many hashes, made of one byte
 abbrev pub hashes : ℕ → ℕ → List Tagged
-hashes n x = fld Transaction_Hash (replicate (n * hash_size) x) ∷ fld Transaction_Hash_Size (hash_size ∷ []) ∷ []
+hashes n x = fld TransactionHash (replicate (n * hash_size) x) ∷ fld TransactionHashSize (hash_size ∷ []) ∷ []
 
 -- SIGN over them; the provider makes the signature of a hash of that byte, always the same
 abbrev pub signs : ℕ → ℕ → Call
@@ -131,12 +131,12 @@ verifies = ask0 VerifyCard (fld Challenge (replicate salt_size 4) ∷ []) (repli
 abbrev pub notes : ℕ → Call
 notes n =
     ask0 WriteIssuerData
-    (fld Issuer_Data (replicate 3 8) ∷ fld Issuer_Data_Signature (replicate signature_size 6) ∷ fld Issuer_Data_Counter (be4 n) ∷ [])
+    (fld IssuerData (replicate 3 8) ∷ fld IssuerDataSignature (replicate signature_size 6) ∷ fld IssuerDataCounter (be4 n) ∷ [])
     (1 ∷ [])
 
 -- an activation with this Reset_PIN1, and the issuer's word on it
 abbrev pub wakes : ℕ → ℕ → Call
-wakes reset word = ask0 ActivateCard (fld Reset_PIN1 (reset ∷ []) ∷ fld Activation_Signature (replicate signature_size 3) ∷ []) (word ∷ [])
+wakes reset word = ask0 ActivateCard (fld ResetPIN1 (reset ∷ []) ∷ fld ActivationSignature (replicate signature_size 3) ∷ []) (word ∷ [])
 
 -- A STORY: a wallet made, a READ_CARD with a stray answer (number 4), five hashes signed, the same again, a purge, a second wallet
 abbrev pub story : List Call

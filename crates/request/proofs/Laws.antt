@@ -11,7 +11,7 @@ use borrow.Author.Tests.{ltb-false}
 use Rattle.wire.proofs.Laws.{by_cases}
 use Rattle.fields.specs.Fields.{View, val}
 use Rattle.manual.specs.Words.{least_request, most_request}
-use Rattle.manual.specs.Tags.{Transaction_Hash}
+use Rattle.manual.specs.Tags.{TransactionHash}
 use Rattle.manual.specs.declared.Lc.{Lc}
 use Rattle.manual.specs.declared.Lc.TheVariants.{Wrong}
 use Rattle.manual.specs.declared.Signing.{Signing}
@@ -20,14 +20,14 @@ use Rattle.manual.specs.Request.{lc_of, fits, payload_by, payload, body_in, comm
 use Rattle.manual.specs.Wallet.{is_new, signing}
 
 abbrev Asks : View → Signing → Type 0
-Asks v (New n) = (is_new v ≡ true) × (n ≡ length (val Transaction_Hash v))
+Asks v (New n) = (is_new v ≡ true) × (n ≡ length (val TransactionHash v))
 Asks v Again = is_new v ≡ false
 
 asks : (v : View) → Asks v (signing v)
 unfolding signing
 asks v = by_cases (Asks v) (is_new v) (λ e. (e, refl)) (λ e. e)
 
-pub asks_new : (v : View) {n : ℕ} → signing v ≡ New n → (is_new v ≡ true) × (n ≡ length (val Transaction_Hash v))
+pub asks_new : (v : View) {n : ℕ} → signing v ≡ New n → (is_new v ≡ true) × (n ≡ length (val TransactionHash v))
 asks_new v e = subst (Asks v) e (asks v)
 
 pub asks_again : (v : View) → signing v ≡ Again → is_new v ≡ false

@@ -1,7 +1,7 @@
 -- NO TWO OUTCOMES MEET A PROMISE of request: a theorem about each public function's own contract. Assumes nothing.
 use Prim.Native.Nat.{ℕ}
 use mathlib.Core.List.{List}
-use Rattle.wire.specs.One_Outcome.{One_Outcome, One_Seen, plain}
+use Rattle.wire.specs.OneOutcome.{OneOutcome, OneSeen, plain}
 use Rattle.wire.proofs.Unique.{one_equal}
 use Rattle.request.specs.contracts.lc_of as lc_of
 use Rattle.request.specs.contracts.command as command
@@ -11,23 +11,23 @@ use Rattle.request.specs.contracts.sent_counter as sent_counter
 use Rattle.request.specs.contracts.payload as payload
 use Rattle.request.specs.contracts.body as body
 
-pub lc_of_one : One_Outcome lc_of.ended (λ M. lc_of.clauses {M = M})
+pub lc_of_one : OneOutcome lc_of.ended (λ M. lc_of.clauses {M = M})
 lc_of_one M 𝓤 𝓛 m r κs a g z z' ws ws' = plain 𝓤 (λ p q. one_equal p q)
 
-pub command_one : One_Outcome command.ended (λ M. command.clauses {M = M})
+pub command_one : OneOutcome command.ended (λ M. command.clauses {M = M})
 command_one M 𝓤 𝓛 m r κs a g z z' ws ws' = plain 𝓤 (λ p q. one_equal p q)
 
-pub signing_one : One_Outcome signing.ended (λ M. signing.clauses {M = M})
+pub signing_one : OneOutcome signing.ended (λ M. signing.clauses {M = M})
 signing_one M 𝓤 𝓛 m r κs a g z z' ws ws' = plain 𝓤 (λ p q. one_equal p q)
 
-pub resets_one : One_Outcome resets.ended (λ M. resets.clauses {M = M})
+pub resets_one : OneOutcome resets.ended (λ M. resets.clauses {M = M})
 resets_one M 𝓤 𝓛 m r κs a g z z' ws ws' = plain 𝓤 (λ p q. one_equal p q)
 
-pub sent_counter_one : One_Outcome sent_counter.ended (λ M. sent_counter.clauses {M = M})
+pub sent_counter_one : OneOutcome sent_counter.ended (λ M. sent_counter.clauses {M = M})
 sent_counter_one M 𝓤 𝓛 m r κs a g z z' ws ws' = plain 𝓤 (λ p q. one_equal p q)
 
-pub payload_one : One_Seen payload.ended (λ M. payload.clauses {M = M}) (List ℕ) (λ κs z. z.now)
+pub payload_one : OneSeen payload.ended (λ M. payload.clauses {M = M}) (List ℕ) (λ κs z. z.now)
 payload_one M 𝓤 𝓛 m r κs a g z z' ws ws' = plain 𝓤 (λ p q. one_equal p q)
 
-pub body_one : One_Seen body.ended (λ M. body.clauses {M = M}) (List ℕ) (λ κs z. z.now)
+pub body_one : OneSeen body.ended (λ M. body.clauses {M = M}) (List ℕ) (λ κs z. z.now)
 body_one M 𝓤 𝓛 m r κs a g z z' ws ws' = plain 𝓤 (λ p q. one_equal p q)

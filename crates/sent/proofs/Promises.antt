@@ -1,7 +1,7 @@
 -- NO TWO OUTCOMES MEET A PROMISE of sent: a theorem about each public function's own contract. Assumes nothing.
 use Prim.Native.Nat.{ℕ}
 use mathlib.Core.List.{List}
-use Rattle.wire.specs.One_Outcome.{One_Outcome, One_Seen, plain}
+use Rattle.wire.specs.OneOutcome.{OneOutcome, OneSeen, plain}
 use Rattle.wire.proofs.Unique.{one_equal}
 use Rattle.sent.proofs.Unique.{one_filling}
 use Rattle.sent.specs.contracts.fill as fill
@@ -12,23 +12,23 @@ use Rattle.sent.specs.contracts.none_twice as none_twice
 use Rattle.sent.specs.contracts.holds as holds
 use Rattle.sent.specs.contracts.value as value
 
-pub fill_one : One_Outcome fill.ended (λ M. fill.clauses {M = M})
+pub fill_one : OneOutcome fill.ended (λ M. fill.clauses {M = M})
 fill_one M 𝓤 𝓛 m r κs a g z z' ws ws' = plain 𝓤 (λ p q. let e = one_filling p q in (e.0, λ i. (tt, (e.1 i, tt))))
 
-pub none_one : One_Outcome none.ended (λ M. none.clauses {M = M})
+pub none_one : OneOutcome none.ended (λ M. none.clauses {M = M})
 none_one M 𝓤 𝓛 m r κs a g z z' ws ws' = plain 𝓤 (λ p q. one_equal p q)
 
-pub has_one : One_Outcome has.ended (λ M. has.clauses {M = M})
+pub has_one : OneOutcome has.ended (λ M. has.clauses {M = M})
 has_one M 𝓤 𝓛 m r κs a g z z' ws ws' = plain 𝓤 (λ p q. one_equal p q)
 
-pub holds_one : One_Outcome holds.ended (λ M. holds.clauses {M = M})
+pub holds_one : OneOutcome holds.ended (λ M. holds.clauses {M = M})
 holds_one M 𝓤 𝓛 m r κs a g z z' ws ws' = plain 𝓤 (λ p q. one_equal p q)
 
-pub value_one : One_Seen value.ended (λ M. value.clauses {M = M}) (List ℕ) (λ κs z. z.now)
+pub value_one : OneSeen value.ended (λ M. value.clauses {M = M}) (List ℕ) (λ κs z. z.now)
 value_one M 𝓤 𝓛 m r κs a g z z' ws ws' = plain 𝓤 (λ p q. one_equal p q)
 
-pub stands_one : One_Outcome stands.ended (λ M. stands.clauses {M = M})
+pub stands_one : OneOutcome stands.ended (λ M. stands.clauses {M = M})
 stands_one M 𝓤 𝓛 m r κs a g z z' ws ws' = plain 𝓤 (λ p q. one_equal p q)
 
-pub none_twice_one : One_Outcome none_twice.ended (λ M. none_twice.clauses {M = M})
+pub none_twice_one : OneOutcome none_twice.ended (λ M. none_twice.clauses {M = M})
 none_twice_one M 𝓤 𝓛 m r κs a g z z' ws ws' = plain 𝓤 (λ p q. one_equal p q)

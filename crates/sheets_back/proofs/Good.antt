@@ -130,11 +130,11 @@ module _ (s : List ℕ) (e : first_bad s ≡ 0) where
       curve_known_lem max_known pause_known_lem flags_known
 
 -- NO EMPTY VALUE IS GOOD, so that a line without a tab is bad
-abbrev None_Empty : List Row → Type 0
-None_Empty [] = Unit {0}
-None_Empty (r ∷ rs) = (r.good [] ≡ false) × None_Empty rs
+abbrev NoneEmpty : List Row → Type 0
+NoneEmpty [] = Unit {0}
+NoneEmpty (r ∷ rs) = (r.good [] ≡ false) × NoneEmpty rs
 
-none_empty : (rs : List Row) → None_Empty rs → (k : ℕ) → (get_or rs k no_row).good [] ≡ false
+none_empty : (rs : List Row) → NoneEmpty rs → (k : ℕ) → (get_or rs k no_row).good [] ≡ false
 unfolding no_row
 none_empty [] x k = refl
 none_empty (r ∷ rs) x zero = x.0

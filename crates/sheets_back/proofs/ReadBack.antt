@@ -24,7 +24,7 @@ use Rattle.sheet.specs.Sheet.{Row, sheet_lines, pause_row, row_of, good_row, val
 use Rattle.personalise.specs.Personalise.{value_of, sheet_codes, sheet_fixed, sheet_flags, sheet_card}
 use Rattle.wire.proofs.Laws.{alike_self}
 use Rattle.sheet.proofs.Laws.{bad_paused, bad_end}
-use Rattle.sheets_back.specs.Written.{text_from, curve_name, flag_text, flag_values, values, pause_text, sheet_text, In_Range}
+use Rattle.sheets_back.specs.Written.{text_from, curve_name, flag_text, flag_values, values, pause_text, sheet_text, InRange}
 use Rattle.sheets_back.proofs.Good.{pause_none}
 
 -- A VALUE ON A LINE: good there, and it breaks no line; the line's name has no tab in it
@@ -183,7 +183,7 @@ module _ (k n : ℕ) (s : List ℕ) (h : 1 ≤ k) (l : n ≤ most_pause) (e : fr
           (bad_paused k s r.fine ∙ rw (le-ltb _ _ (none_left (suc k) s r.rest)), ap pause_of r.value ∙ pause_back n l)
 
 -- EVERY LINE of a card's sheet
-module _ (c : Card) (r : In_Range c) where
+module _ (c : Card) (r : InRange c) where
   seed_line : Line (row_of 14) (hex_of c.face.front.fixed.seed)
   unfolding row_of all_of
   seed_line =

@@ -105,20 +105,20 @@ pub record Short (r : Row) : Type 0 where
   pub name : length r.name ≤ 8
   pub value : (v : List ℕ) → r.good v ≡ true → length v ≤ 64
 
-abbrev All_Short : List Row → Type 0
-All_Short [] = Unit {0}
-All_Short (r ∷ rs) = Short r × All_Short rs
+abbrev AllShort : List Row → Type 0
+AllShort [] = Unit {0}
+AllShort (r ∷ rs) = Short r × AllShort rs
 
 none_short : Short no_row
 unfolding no_row
 none_short = record { name = omega arith; value = λ v e. absurd (never e) }
 
-all_short : (rs : List Row) → All_Short rs → (k : ℕ) → Short (get_or rs k no_row)
+all_short : (rs : List Row) → AllShort rs → (k : ℕ) → Short (get_or rs k no_row)
 all_short [] x k = none_short
 all_short (r ∷ rs) x zero = x.0
 all_short (r ∷ rs) x (suc k) = all_short rs x.1 k
 
-rows_short : All_Short (no_row ∷ rows)
+rows_short : AllShort (no_row ∷ rows)
 rows_short = (
   none_short,
   (

@@ -58,7 +58,7 @@ unfoldable pub sheet_text : Card → List ℕ
 sheet_text c = text_from 1 (values c) ++ pause_text c.face.front.fixed.pause
 
 -- "every value is in its range": the cards that a sheet can describe
-pub record Fixed_In_Range (x : Fixed) : Type 0 where
+pub record FixedInRange (x : Fixed) : Type 0 where
   pub cid : length x.cid ≡ 8
   pub cid_bytes : Bytes x.cid
   pub cvc : length x.cvc ≡ 3
@@ -69,13 +69,13 @@ pub record Fixed_In_Range (x : Fixed) : Type 0 where
   pub seed_bytes : Bytes x.seed
   pub pause : x.pause ≤ 60
 
-pub record Codes_In_Range (x : Codes) : Type 0 where
+pub record CodesInRange (x : Codes) : Type 0 where
   pub pin1 : length x.pin1 ≡ 32
   pub pin1_bytes : Bytes x.pin1
   pub pin2 : length x.pin2 ≡ 32
   pub pin2_bytes : Bytes x.pin2
 
-pub record Flags_In_Range (g : Flags) : Type 0 where
+pub record FlagsInRange (g : Flags) : Type 0 where
   pub reusable : g.reusable ≤ 1
   pub usecvc : g.usecvc ≤ 1
   pub setpin1 : g.setpin1 ≤ 1
@@ -84,7 +84,7 @@ pub record Flags_In_Range (g : Flags) : Type 0 where
   pub replay : g.replay ≤ 1
   pub active : g.active ≤ 1
 
-pub record In_Range (c : Card) : Type 0 where
-  pub fixed : Fixed_In_Range c.face.front.fixed
-  pub codes : Codes_In_Range c.codes
-  pub flags : Flags_In_Range c.face.front.flags
+pub record InRange (c : Card) : Type 0 where
+  pub fixed : FixedInRange c.face.front.fixed
+  pub codes : CodesInRange c.codes
+  pub flags : FlagsInRange c.face.front.flags

@@ -1,5 +1,5 @@
 -- NO TWO OUTCOMES MEET A PROMISE of shelf: a theorem about each public function's own contract. Assumes nothing.
-use Rattle.wire.specs.One_Outcome.{One_Outcome, plain}
+use Rattle.wire.specs.OneOutcome.{OneOutcome, plain}
 use Rattle.wire.proofs.Unique.{one_equal}
 use Rattle.shelf.specs.contracts.blanks as blanks
 use Rattle.shelf.specs.contracts.put as put
@@ -12,32 +12,32 @@ use Rattle.shelf.specs.contracts.notes_in as notes_in
 use Rattle.shelf.specs.contracts.count_in as count_in
 use Rattle.shelf.specs.contracts.numbers as numbers
 
-pub blanks_one : One_Outcome blanks.ended (λ M. blanks.clauses {M = M})
+pub blanks_one : OneOutcome blanks.ended (λ M. blanks.clauses {M = M})
 blanks_one M 𝓤 𝓛 m r κs a g z z' ws ws' = plain 𝓤 (λ p q. one_equal p q)
 
-pub put_one : One_Outcome put.ended (λ M. put.clauses {M = M})
+pub put_one : OneOutcome put.ended (λ M. put.clauses {M = M})
 put_one M 𝓤 𝓛 m r κs a g z z' ws ws' = plain 𝓤 (λ p q. one_equal p q)
 
-pub got_one : One_Outcome got.ended (λ M. got.clauses {M = M})
+pub got_one : OneOutcome got.ended (λ M. got.clauses {M = M})
 got_one M 𝓤 𝓛 m r κs a g z z' ws ws' = plain 𝓤 (λ p q. one_equal p q)
 
-pub lesser_one : One_Outcome lesser.ended (λ M. lesser.clauses {M = M})
+pub lesser_one : OneOutcome lesser.ended (λ M. lesser.clauses {M = M})
 lesser_one M 𝓤 𝓛 m r κs a g z z' ws ws' = plain 𝓤 (λ p q. one_equal p q)
 
-pub first_bad_one : One_Outcome first_bad_lem.ended (λ M. first_bad_lem.clauses {M = M})
+pub first_bad_one : OneOutcome first_bad_lem.ended (λ M. first_bad_lem.clauses {M = M})
 first_bad_one M 𝓤 𝓛 m r κs a g z z' ws ws' = plain 𝓤 (λ p q. one_equal p q)
 
-pub answered_one : One_Outcome answered.ended (λ M. answered.clauses {M = M})
+pub answered_one : OneOutcome answered.ended (λ M. answered.clauses {M = M})
 answered_one M 𝓤 𝓛 m r κs a g z z' ws ws' = plain 𝓤 (λ p q. one_equal p q)
 
-pub outcome_in_one : One_Outcome outcome_in.ended (λ M. outcome_in.clauses {M = M})
+pub outcome_in_one : OneOutcome outcome_in.ended (λ M. outcome_in.clauses {M = M})
 outcome_in_one M 𝓤 𝓛 m r κs a g z z' ws ws' = plain 𝓤 (λ p q. one_equal p q)
 
-pub notes_in_one : One_Outcome notes_in.ended (λ M. notes_in.clauses {M = M})
+pub notes_in_one : OneOutcome notes_in.ended (λ M. notes_in.clauses {M = M})
 notes_in_one M 𝓤 𝓛 m r κs a g z z' ws ws' = plain 𝓤 (λ p q. one_equal p q)
 
-pub count_in_one : One_Outcome count_in.ended (λ M. count_in.clauses {M = M})
+pub count_in_one : OneOutcome count_in.ended (λ M. count_in.clauses {M = M})
 count_in_one M 𝓤 𝓛 m r κs a g z z' ws ws' = plain 𝓤 (λ p q. one_equal p q)
 
-pub numbers_one : One_Outcome numbers.ended (λ M. numbers.clauses {M = M})
+pub numbers_one : OneOutcome numbers.ended (λ M. numbers.clauses {M = M})
 numbers_one M 𝓤 𝓛 m r κs a g z z' ws ws' = plain 𝓤 (λ p q. one_equal p q)

@@ -11,15 +11,15 @@ use Rattle.notes.specs.declared.Note.{Note}
 use Rattle.notes.specs.Notes.{blank, follows}
 use Rattle.shelf.specs.Shelf.{bad_from, first_bad, is_book}
 use Rattle.noteline.specs.NoteLine.{line_of, note_at}
-use Rattle.booktext.specs.BookText.{Meaning, Book, Bad_At, also, notes_from, meaning, text_of}
-use Rattle.spelled.specs.Spelled.{Ranges, Each, last_of, First_Bad_Line}
+use Rattle.booktext.specs.BookText.{Meaning, Book, BadAt, also, notes_from, meaning, text_of}
+use Rattle.spelled.specs.Spelled.{Ranges, Each, last_of, FirstBadLine}
 use Rattle.spelled.proofs.Spelling.{line_spelled, line_ranges}
 use Rattle.notes.proofs.Laws.{follows_good}
 use Rattle.spelled.proofs.Steps.{notes_none, notes_full, notes_bad, notes_on, text_none, text_more}
 use Rattle.spelled.proofs.Book.{line_first, no_book}
 use Rattle.spelled.proofs.Sizes.{most_notes}
 
-same_line : {j k : ℕ} → Bad_At j ≡ Bad_At k → j ≡ k
+same_line : {j k : ℕ} → BadAt j ≡ BadAt k → j ≡ k
 same_line e = cc
 
 -- the same, where y stands before, room for n is left, and the first line is line k
@@ -67,19 +67,19 @@ module _ (n k : ℕ) (y x : Note) (s t : List ℕ) (j : ℕ) (p : follows y x �
         bad = λ z. h.bad (omega arith);
       }
 
-  stops_more : (m : Meaning) → also x m ≡ Bad_At j → (m ≡ Bad_At j → Stops n (k + 1) x t j) → Stops (suc n) k y s j
+  stops_more : (m : Meaning) → also x m ≡ BadAt j → (m ≡ BadAt j → Stops n (k + 1) x t j) → Stops (suc n) k y s j
   unfolding also
   stops_more (Book l) q f = absurd (no_book (sym q))
-  stops_more (Bad_At i) q f = stops_later (f q)
+  stops_more (BadAt i) q f = stops_later (f q)
 
-stops : (n k : ℕ) (y : Note) (s : List ℕ) (j : ℕ) → notes_from n k y s ≡ Bad_At j → Stops n k y s j
+stops : (n k : ℕ) (y : Note) (s : List ℕ) (j : ℕ) → notes_from n k y s ≡ BadAt j → Stops n k y s j
 stops zero k y [] j e = absurd (no_book (sym e ∙ notes_none 0 k y))
 stops zero k y (b ∷ s) j e = stops_here 0 k y b s j (same_line (sym e ∙ notes_full k y b s)) (λ h. absurd (omega arith))
 stops (suc n) k y [] j e = absurd (no_book (sym e ∙ notes_none (suc n) k y))
 stops (suc n) k y (b ∷ s) j e = go (follows y (note_at (b ∷ s))) refl (stops n (k + 1) (note_at (b ∷ s)) (tail_after 10 (b ∷ s)) j)
   where
     go : (t : Bool) → follows y (note_at (b ∷ s)) ≡ t
-        → (notes_from n (k + 1) (note_at (b ∷ s)) (tail_after 10 (b ∷ s)) ≡ Bad_At j → Stops n (k + 1) (note_at (b ∷ s)) (tail_after 10 (b ∷ s)) j)
+        → (notes_from n (k + 1) (note_at (b ∷ s)) (tail_after 10 (b ∷ s)) ≡ BadAt j → Stops n (k + 1) (note_at (b ∷ s)) (tail_after 10 (b ∷ s)) j)
         → Stops (suc n) k y (b ∷ s) j
     go false p f = stops_here (suc n) k y b s j (same_line (sym e ∙ notes_bad n k y b s p)) (λ h. p)
     go true p f =
@@ -89,7 +89,7 @@ stops (suc n) k y (b ∷ s) j e = go (follows y (note_at (b ∷ s))) refl (stops
         stops_more n k y x (b ∷ s) t j p (line_spelled (b ∷ s) h) (line_ranges (b ∷ s) h) (notes_from n (k + 1) x t) (sym (notes_on n k y b s p) ∙ e) f
 
 -- THE LINE that a text is bad at is its first bad line
-pub first_bad_line : (s : List ℕ) (k : ℕ) → meaning s ≡ Bad_At k → First_Bad_Line s k
+pub first_bad_line : (s : List ℕ) (k : ℕ) → meaning s ≡ BadAt k → FirstBadLine s k
 unfolding meaning is_book first_bad
 first_bad_line s k e =
     let h = stops 256 1 blank s k e in
@@ -106,7 +106,7 @@ first_bad_line s k e =
     }
 
 -- lines are counted from 1, and "line 257 is one"
-pub bad_line_is_first : (s : List ℕ) (k : ℕ) → meaning s ≡ Bad_At k → (1 ≤ k) × (k ≤ 257)
+pub bad_line_is_first : (s : List ℕ) (k : ℕ) → meaning s ≡ BadAt k → (1 ≤ k) × (k ≤ 257)
 bad_line_is_first s k e =
     let h = first_bad_line s k e in
     let i = h.line in
@@ -114,28 +114,28 @@ bad_line_is_first s k e =
     (omega arith, omega arith)
 
 -- AND BACK: where the first bad line is line k, that is what the text means
-bad_here : (n k : ℕ) (y : Note) (r : List ℕ) → 0 < length r → (0 < n → follows y (note_at r) ≡ false) → notes_from n k y r ≡ Bad_At k
+bad_here : (n k : ℕ) (y : Note) (r : List ℕ) → 0 < length r → (0 < n → follows y (note_at r) ≡ false) → notes_from n k y r ≡ BadAt k
 bad_here n k y [] h f = absurd (omega arith)
 bad_here zero k y (b ∷ r) h f = notes_full k y b r
 bad_here (suc n) k y (b ∷ r) h f = notes_bad n k y b r (f (omega arith))
 
 bad_after_lem : (n k : ℕ) (y : Note) (l : List Note) (r : List ℕ) → 1 ≤ k → bad_from n k y l ≡ 0 → Each l → 0 < length r
-    → (length l < n → follows (last_of y l) (note_at r) ≡ false) → notes_from n k y (text_of l ++ r) ≡ Bad_At (k + length l)
+    → (length l < n → follows (last_of y l) (note_at r) ≡ false) → notes_from n k y (text_of l ++ r) ≡ BadAt (k + length l)
 unfolding bad_from Each last_of also
 bad_after_lem n k y [] r h e g i f = let z : k + 0 ≡ k = omega arith in rw (text_none, z) (bad_here n k y r i f)
 bad_after_lem zero k y (x ∷ l) r h e g i f = absurd (omega arith)
 bad_after_lem (suc n) k y (x ∷ l) r h e g i f = go (follows y x) refl e (λ q. bad_after_lem n (k + 1) x l r (omega arith) q g.1 i (λ z. f (omega arith)))
   where
     go : (b : Bool) → follows y x ≡ b → cond b (bad_from n (k + 1) x l) k ≡ 0
-        → (bad_from n (k + 1) x l ≡ 0 → notes_from n (k + 1) x (text_of l ++ r) ≡ Bad_At (k + 1 + length l))
-        → notes_from (suc n) k y (text_of (x ∷ l) ++ r) ≡ Bad_At (k + suc (length l))
+        → (bad_from n (k + 1) x l ≡ 0 → notes_from n (k + 1) x (text_of l ++ r) ≡ BadAt (k + 1 + length l))
+        → notes_from (suc n) k y (text_of (x ∷ l) ++ r) ≡ BadAt (k + suc (length l))
     go false p q z = absurd (omega arith)
     go true p q z =
         let j : k + 1 + length l ≡ k + suc (length l) = omega arith in
         rw (text_more x l, append_assoc (line_of x) (text_of l) r)
-        (line_first n k y x (text_of l ++ r) p g.0 ∙ ap (also x) (z q) ∙ ap Bad_At j)
+        (line_first n k y x (text_of l ++ r) p g.0 ∙ ap (also x) (z q) ∙ ap BadAt j)
 
-pub first_bad_means : (s : List ℕ) (k : ℕ) → First_Bad_Line s k → meaning s ≡ Bad_At k
+pub first_bad_means : (s : List ℕ) (k : ℕ) → FirstBadLine s k → meaning s ≡ BadAt k
 unfolding meaning is_book first_bad
 first_bad_means s k h =
     let l = h.notes in
@@ -143,4 +143,4 @@ first_bad_means s k h =
     let j : 1 + length l ≡ k = omega arith in
     ap (notes_from 256 1 blank) h.text
     ∙ bad_after_lem 256 1 blank l h.rest (omega arith) (eqb-true (bad_from 256 1 blank l) 0 h.book) h.ranges h.some h.bad
-    ∙ ap Bad_At j
+    ∙ ap BadAt j

@@ -10,8 +10,8 @@ use Rattle.notes.specs.declared.Note.{Note}
 use Rattle.notes.specs.Notes.{blank, good_of, follows}
 use Rattle.shelf.specs.Shelf.{bad_from, first_bad, is_book}
 use Rattle.noteline.specs.NoteLine.{line_of, note_at}
-use Rattle.booktext.specs.BookText.{Meaning, Book, Bad_At, also, notes_from, meaning, text_of}
-use Rattle.spelled.specs.Spelled.{Ranges, Each, Two_Faces}
+use Rattle.booktext.specs.BookText.{Meaning, Book, BadAt, also, notes_from, meaning, text_of}
+use Rattle.spelled.specs.Spelled.{Ranges, Each, TwoFaces}
 use Rattle.spelled.proofs.Line.{note_back, tail_back}
 use Rattle.spelled.proofs.Spelling.{line_spelled, line_ranges, none_bad}
 use Rattle.notes.proofs.Laws.{follows_good}
@@ -42,7 +42,7 @@ unfolding is_book first_bad meaning
 text_back l e g = back_from 256 1 blank l (omega arith) (eqb-true (bad_from 256 1 blank l) 0 e) g
 
 -- a bad line is no book, and one book is not another
-pub no_book : {k : ℕ} {l : List Note} → Bad_At k ≡ Book l → ⊥
+pub no_book : {k : ℕ} {l : List Note} → BadAt k ≡ Book l → ⊥
 no_book e = let z : ◌≡◌ {A = ℕ} 0 1 = cc in omega arith
 
 pub same_book : {l m : List Note} → Book l ≡ Book m → l ≡ m
@@ -63,7 +63,7 @@ face_none n k y l e =
 module _ (n k : ℕ) (y x : Note) (s t : List ℕ) (l : List Note) (p : follows y x ≡ true) (e : s ≡ line_of x ++ t) (g : Ranges x) where
   face_more : (m : Meaning) → also x m ≡ Book l → ((l' : List Note) → m ≡ Book l' → Face n (k + 1) x t l') → Face (suc n) k y s l
   unfolding also bad_from Each
-  face_more (Bad_At j) q f = absurd (no_book q)
+  face_more (BadAt j) q f = absurd (no_book q)
   face_more (Book l') q f =
       let z : l ≡ x ∷ l' = same_book (sym q) in
       let h = f l' refl in
@@ -108,7 +108,7 @@ module _ (s : List ℕ) (l : List Note) (e : meaning s ≡ Book l) where
   pub means_ranges : Each l
   means_ranges = whole.ranges
 
-pub two_faces : Two_Faces
+pub two_faces : TwoFaces
 two_faces = record { back = text_back; spelled = text_spelled; book = means_a_book; ranges = means_ranges }
 
 -- two books with the same text are the same book

@@ -14,8 +14,8 @@ use Rattle.text.specs.Lines.{length_to, head_to, tail_after, ended}
 use Rattle.notes.specs.declared.Note.{Note}
 use Rattle.notes.specs.Notes.{blank, follows}
 use Rattle.noteline.specs.NoteLine.{note_with, held, valued, fields_of, note_at}
-use Rattle.booktext.specs.BookText.{Meaning, Book, Bad_At, also, notes_from, meaning}
-use Rattle.spelled.specs.Spelled.{Each_Bytes}
+use Rattle.booktext.specs.BookText.{Meaning, Book, BadAt, also, notes_from, meaning}
+use Rattle.spelled.specs.Spelled.{EachBytes}
 use Rattle.spelled.proofs.Steps.{notes_none, notes_full, notes_bad, notes_on}
 use Rattle.spelled.proofs.Book.{no_book, same_book}
 
@@ -65,16 +65,16 @@ line_bytes s h = go (ended s)
     go false = blank_bytes
 
 -- ALL NOTES of a text
-none_bytes : (n k : ℕ) (y : Note) (l : List Note) → notes_from n k y [] ≡ Book l → Each_Bytes l
-unfolding Each_Bytes
+none_bytes : (n k : ℕ) (y : Note) (l : List Note) → notes_from n k y [] ≡ Book l → EachBytes l
+unfolding EachBytes
 none_bytes n k y l e = let z : l ≡ [] = same_book (sym e ∙ notes_none n k y) in rw z tt
 
-more_bytes : (x : Note) (m : Meaning) (l : List Note) → Bytes x.text → also x m ≡ Book l → ((l' : List Note) → m ≡ Book l' → Each_Bytes l') → Each_Bytes l
-unfolding also Each_Bytes
-more_bytes x (Bad_At j) l b q f = absurd (no_book q)
+more_bytes : (x : Note) (m : Meaning) (l : List Note) → Bytes x.text → also x m ≡ Book l → ((l' : List Note) → m ≡ Book l' → EachBytes l') → EachBytes l
+unfolding also EachBytes
+more_bytes x (BadAt j) l b q f = absurd (no_book q)
 more_bytes x (Book l') l b q f = let z : l ≡ x ∷ l' = same_book (sym q) in rw z (b, f l' refl)
 
-all_bytes : (n k : ℕ) (y : Note) (s : List ℕ) (l : List Note) → Bytes s → notes_from n k y s ≡ Book l → Each_Bytes l
+all_bytes : (n k : ℕ) (y : Note) (s : List ℕ) (l : List Note) → Bytes s → notes_from n k y s ≡ Book l → EachBytes l
 all_bytes zero k y [] l h e = none_bytes 0 k y l e
 all_bytes zero k y (b ∷ s) l h e = absurd (no_book (sym (notes_full k y b s) ∙ e))
 all_bytes (suc n) k y [] l h e = none_bytes (suc n) k y l e
@@ -82,13 +82,13 @@ all_bytes (suc n) k y (b ∷ s) l h e =
     go (follows y (note_at (b ∷ s))) refl (λ l'. all_bytes n (k + 1) (note_at (b ∷ s)) (tail_after 10 (b ∷ s)) l' (bytes_tail 10 (b ∷ s) h))
   where
     go : (t : Bool) → follows y (note_at (b ∷ s)) ≡ t
-        → ((l' : List Note) → notes_from n (k + 1) (note_at (b ∷ s)) (tail_after 10 (b ∷ s)) ≡ Book l' → Each_Bytes l') → Each_Bytes l
+        → ((l' : List Note) → notes_from n (k + 1) (note_at (b ∷ s)) (tail_after 10 (b ∷ s)) ≡ Book l' → EachBytes l') → EachBytes l
     go false p f = absurd (no_book (sym (notes_bad n k y b s p) ∙ e))
     go true p f =
         let x = note_at (b ∷ s) in
         let t = tail_after 10 (b ∷ s) in
         more_bytes x (notes_from n (k + 1) x t) l (line_bytes (b ∷ s) h) (sym (notes_on n k y b s p) ∙ e) f
 
-pub means_bytes : (s : List ℕ) (l : List Note) → Bytes s → meaning s ≡ Book l → Each_Bytes l
+pub means_bytes : (s : List ℕ) (l : List Note) → Bytes s → meaning s ≡ Book l → EachBytes l
 unfolding meaning
 means_bytes s l h e = all_bytes 256 1 blank s l h e

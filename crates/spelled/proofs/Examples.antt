@@ -8,7 +8,7 @@ use Rattle.text.specs.Text.{ascii, all_of, is_digit, decimal_from, plain_decimal
 use Rattle.text.specs.Lines.{length_to, head_to, tail_after, ended}
 use Rattle.notes.specs.Notes.{blank, by_number, order_of, is_before, clean_of, text_good, good_of, follows}
 use Rattle.noteline.specs.NoteLine.{line_of, note_with, held, valued, fields_of, note_at}
-use Rattle.booktext.specs.BookText.{Book, Bad_At, also, notes_from, meaning}
+use Rattle.booktext.specs.BookText.{Book, BadAt, also, notes_from, meaning}
 
 -- the empty text is the book of no notes
 pub no_lines : meaning [] ≡ Book []
@@ -32,13 +32,13 @@ unfolding meaning notes_from also follows good_of text_good clean_of all_zero is
 two_lines = refl
 
 -- not rising, and the same line twice; a leading zero; a line without its line feed; a tab in the text; no text; a line of nothing
-pub bad_lines : (meaning (second ++ first) ≡ Bad_At 2)
-    × (meaning (first ++ first) ≡ Bad_At 2)
-    × (meaning (line (ascii "07") (ascii "1") (ascii "1205") (ascii "oil")) ≡ Bad_At 1)
-    × (meaning (first ++ ascii "8") ≡ Bad_At 2)
-    × (meaning (line (ascii "7") (ascii "1") (ascii "1205") (111 ∷ 9 ∷ 108 ∷ [])) ≡ Bad_At 1)
-    × (meaning (line (ascii "7") (ascii "1") (ascii "1205") []) ≡ Bad_At 1)
-    × (meaning (first ++ (10 ∷ [])) ≡ Bad_At 2)
+pub bad_lines : (meaning (second ++ first) ≡ BadAt 2)
+    × (meaning (first ++ first) ≡ BadAt 2)
+    × (meaning (line (ascii "07") (ascii "1") (ascii "1205") (ascii "oil")) ≡ BadAt 1)
+    × (meaning (first ++ ascii "8") ≡ BadAt 2)
+    × (meaning (line (ascii "7") (ascii "1") (ascii "1205") (111 ∷ 9 ∷ 108 ∷ [])) ≡ BadAt 1)
+    × (meaning (line (ascii "7") (ascii "1") (ascii "1205") []) ≡ BadAt 1)
+    × (meaning (first ++ (10 ∷ [])) ≡ BadAt 2)
 unfolding meaning notes_from also follows good_of text_good clean_of all_zero is_before order_of by_number note_at ended head_to tail_after length_to fields_of valued held
     number_of fitting plain_decimal all_of is_digit decimal_from blank fit put room part
 bad_lines = (refl, refl, refl, refl, refl, refl, refl)
@@ -46,11 +46,11 @@ bad_lines = (refl, refl, refl, refl, refl, refl, refl)
 -- the ends of the ranges: the tablet is any byte, the number 1 to 65,535, the hours 0 to 999,999
 pub ends : (meaning (line (ascii "255") (ascii "65535") (ascii "999999") (ascii "a")) ≡ Book (note_with 255 65535 999999 (ascii "a") ∷ []))
     × (meaning (line (ascii "0") (ascii "1") (ascii "0") (ascii "a")) ≡ Book (note_with 0 1 0 (ascii "a") ∷ []))
-    × (meaning (line (ascii "256") (ascii "1") (ascii "0") (ascii "a")) ≡ Bad_At 1)
-    × (meaning (line (ascii "0") (ascii "0") (ascii "0") (ascii "a")) ≡ Bad_At 1)
-    × (meaning (line (ascii "0") (ascii "65536") (ascii "0") (ascii "a")) ≡ Bad_At 1)
-    × (meaning (line (ascii "0") (ascii "1") (ascii "1000000") (ascii "a")) ≡ Bad_At 1)
-    × (meaning (line (ascii "0") (ascii "1") (ascii "0") (replicate 61 97)) ≡ Bad_At 1)
+    × (meaning (line (ascii "256") (ascii "1") (ascii "0") (ascii "a")) ≡ BadAt 1)
+    × (meaning (line (ascii "0") (ascii "0") (ascii "0") (ascii "a")) ≡ BadAt 1)
+    × (meaning (line (ascii "0") (ascii "65536") (ascii "0") (ascii "a")) ≡ BadAt 1)
+    × (meaning (line (ascii "0") (ascii "1") (ascii "1000000") (ascii "a")) ≡ BadAt 1)
+    × (meaning (line (ascii "0") (ascii "1") (ascii "0") (replicate 61 97)) ≡ BadAt 1)
 unfolding meaning notes_from also follows good_of text_good clean_of all_zero is_before order_of by_number note_at ended head_to tail_after length_to fields_of valued held
     number_of fitting plain_decimal all_of is_digit decimal_from blank fit put room part
 ends = (refl, refl, refl, refl, refl, refl, refl)

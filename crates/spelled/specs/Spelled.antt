@@ -21,12 +21,12 @@ Each [] = Unit {0}
 Each (x ∷ l) = Ranges x × Each l
 
 -- and that the text of each is bytes
-unfoldable pub Each_Bytes : List Note → Type 0
-Each_Bytes [] = Unit {0}
-Each_Bytes (x ∷ l) = Bytes x.text × Each_Bytes l
+unfoldable pub EachBytes : List Note → Type 0
+EachBytes [] = Unit {0}
+EachBytes (x ∷ l) = Bytes x.text × EachBytes l
 
 -- A BOOK AND ITS TEXT are two faces of one thing: the text of a book means that book, and whatever means a book is the text of it, byte for byte
-pub record Two_Faces : Type 0 where
+pub record TwoFaces : Type 0 where
   pub back : (l : List Note) → is_book l ≡ true → Each l → meaning (text_of l) ≡ Book l
   pub spelled : (s : List ℕ) (l : List Note) → meaning s ≡ Book l → s ≡ text_of l
   pub book : (s : List ℕ) (l : List Note) → meaning s ≡ Book l → is_book l ≡ true
@@ -39,7 +39,7 @@ last_of y (x ∷ l) = last_of x l
 
 -- LINE k IS THE FIRST BAD ONE: before it stands the text of a book, of k - 1 notes; there is a line; and it is no good note, does not rise above the last, or
 -- 256 notes are there already
-pub record First_Bad_Line (s : List ℕ) (k : ℕ) : Type 0 where
+pub record FirstBadLine (s : List ℕ) (k : ℕ) : Type 0 where
   pub notes : List Note
   pub rest : List ℕ
   pub text : s ≡ text_of notes ++ rest

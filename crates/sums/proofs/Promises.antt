@@ -1,15 +1,15 @@
 -- NO TWO OUTCOMES MEET A PROMISE of sums: a theorem about each public function's own contract. Assumes nothing.
-use Rattle.wire.specs.One_Outcome.{One_Outcome, plain}
+use Rattle.wire.specs.OneOutcome.{OneOutcome, plain}
 use Rattle.wire.proofs.Unique.{one_equal}
 use Rattle.sums.specs.contracts.none as none
 use Rattle.sums.specs.contracts.count as count
 use Rattle.sums.specs.contracts.live_signs as live_signs
 
-pub none_one : One_Outcome none.ended (λ M. none.clauses {M = M})
+pub none_one : OneOutcome none.ended (λ M. none.clauses {M = M})
 none_one M 𝓤 𝓛 m r κs a g z z' ws ws' = plain 𝓤 (λ p q. one_equal p q)
 
-pub count_one : One_Outcome count.ended (λ M. count.clauses {M = M})
+pub count_one : OneOutcome count.ended (λ M. count.clauses {M = M})
 count_one M 𝓤 𝓛 m r κs a g z z' ws ws' = plain 𝓤 (λ p q. one_equal p q)
 
-pub live_signs_one : One_Outcome live_signs.ended (λ M. live_signs.clauses {M = M})
+pub live_signs_one : OneOutcome live_signs.ended (λ M. live_signs.clauses {M = M})
 live_signs_one M 𝓤 𝓛 m r κs a g z z' ws ws' = plain 𝓤 (λ p q. one_equal p q)

@@ -21,7 +21,7 @@ use Rattle.manual.specs.Commands.{row}
 use Rattle.manual.specs.Delay.{entered}
 use Rattle.manual.specs.Settle.{holding, Call, sent_in, matched, judged, done, answered, said_by, said, leaving, paced_to, lent, roomy}
 use Rattle.story.specs.Sums.{is_done, ins}
-use Rattle.history.specs.Demands.{Any_Card, Demand2, settle_stop}
+use Rattle.history.specs.Demands.{AnyCard, Demand2, settle_stop}
 use Rattle.history.specs.Waiting.{wait_of}
 use Rattle.history.proofs.Choice.{clash}
 use Rattle.history.proofs.Taps.{Passed, by_outcome}
@@ -58,7 +58,7 @@ module _ (c : Card) (q d a : List ℕ) where
       ∙ ap (leaving no_pending) (ap (λ z. said_by z x c.face q d a) g.verdict ∙ rw (g.shape, g.yes) refl)
 
 -- AN ACCEPTED CALL goes on, and is none of numbers 1 to 3
-module _ {f : Any_Card} (h : Demand2 f) {k : Command} {m : List ℕ} {i : Call} (y : Accepts k f m i) where
+module _ {f : AnyCard} (h : Demand2 f) {k : Command} {m : List ℕ} {i : Call} (y : Accepts k f m i) where
   pub looks : settle_stop (holding m) i ≡ 0
   looks = number_goes h (holding m) i y.number
 
@@ -79,7 +79,7 @@ module _ {f : Any_Card} (h : Demand2 f) {k : Command} {m : List ℕ} {i : Call} 
   has_passed = held_to.1
 
 -- WHAT GOES ON IS ACCEPTED: on another card, by a call that was none of numbers 1 to 3 on this one, where the command has no other word than 9000
-module _ {f : Any_Card} (h : Demand2 f) (m m' : List ℕ) (i : Call) (old : settle_stop (holding m) i ≡ 0) (o : is_card m' ≡ true) where
+module _ {f : AnyCard} (h : Demand2 f) (m m' : List ℕ) (i : Call) (old : settle_stop (holding m) i ≡ 0) (o : is_card m' ≡ true) where
   still_looks : settle_stop (holding m') i ≡ 0
   still_looks =
       let z = stop_none (is_card m) (roomy (length i.buffers.out) (length i.buffers.next)) (eqb (length i.draw) draw_size) old in

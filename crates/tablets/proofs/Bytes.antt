@@ -20,7 +20,7 @@ use Rattle.card.specs.Image.{enc_front, enc_held, enc_face}
 use Rattle.manual.specs.declared.Lc.{Lc}
 use Rattle.manual.specs.declared.Lc.TheVariants.{Body, Wrong}
 use Rattle.manual.specs.Request.{lc_of, payload_by, payload}
-use Rattle.manual.specs.Tags.{User_Data, User_Protected_Data, User_Counter, User_Protected_Counter}
+use Rattle.manual.specs.Tags.{UserData, UserProtectedData, UserCounter, UserProtectedCounter}
 use Rattle.manual.specs.Settle.{sent_in}
 use Rattle.tablets.proofs.Written.{kept, block_in, number_in, wrote}
 
@@ -91,10 +91,10 @@ bytes_wrote v c s b =
     let d = n.1.1.1.1 in
     let x = c.face.front.counters in
     let y = c.face.held in
-    let user = number_bytes User_Counter v (s User_Counter) x.user n.1.1.0 in
-    let protected = number_bytes User_Protected_Counter v (s User_Protected_Counter) x.protected n.1.1.1.0 in
-    let block = block_bytes User_Data v (s User_Data) y.user d.0 in
-    let hidden = block_bytes User_Protected_Data v (s User_Protected_Data) y.protected d.1.0 in
+    let user = number_bytes UserCounter v (s UserCounter) x.user n.1.1.0 in
+    let protected = number_bytes UserProtectedCounter v (s UserProtectedCounter) x.protected n.1.1.1.0 in
+    let block = block_bytes UserData v (s UserData) y.user d.0 in
+    let hidden = block_bytes UserProtectedData v (s UserProtectedData) y.protected d.1.0 in
     let gs = groups (wrote v c) in
     let last : Each (drop 9 gs) = (block, (hidden, (d.1.1.0, (no_pending_bytes, (d.1.1.1.1.0, tt))))) in
     let numbers : Each (drop 5 gs) = (n.0, (n.1.0, (user, (protected, last)))) in

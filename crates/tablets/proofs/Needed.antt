@@ -11,7 +11,7 @@ use Rattle.card.specs.Values.{paused_by, fresh}
 use Rattle.card.specs.Image.{encode, decode}
 use Rattle.card.specs.Valid.{is_card}
 use Rattle.manual.specs.Words.{sw_need_pause}
-use Rattle.manual.specs.Tags.{User_Data, User_Protected_Data, User_Counter}
+use Rattle.manual.specs.Tags.{UserData, UserProtectedData, UserCounter}
 use Rattle.manual.specs.declared.Command.TheVariants.{Sign, WriteUserData}
 use Rattle.manual.specs.Request.{payload}
 use Rattle.manual.specs.Settle.{holding, Call}
@@ -29,10 +29,10 @@ writes fs = ask0 WriteUserData fs []
 
 -- THE SAME TAG IN BOTH: "none of 2A to 2D is in both" is not so, all else is
 abbrev oil : Call
-oil = writes (fld User_Data (1 ∷ []) ∷ [])
+oil = writes (fld UserData (1 ∷ []) ∷ [])
 
 abbrev belt : Call
-belt = writes (fld User_Data (2 ∷ []) ∷ [])
+belt = writes (fld UserData (2 ∷ []) ∷ [])
 
 calm0 : Calm image0
 unfolding run
@@ -47,8 +47,8 @@ unfolding run
 stores_belt = record { ins = refl; bytes = all_bytes belt.request refl; number = refl; word = refl }
 
 later_held :
-    (user_value User_Data (decode (stored model (stored model image0 oil) belt)) ≡ 2 ∷ [])
-    × (user_value User_Data (decode (stored model (stored model image0 belt) oil)) ≡ 1 ∷ [])
+    (user_value UserData (decode (stored model (stored model image0 oil) belt)) ≡ 2 ∷ [])
+    × (user_value UserData (decode (stored model (stored model image0 belt) oil)) ≡ 1 ∷ [])
 unfolding run
 later_held = (refl, refl)
 
@@ -56,8 +56,8 @@ later_held = (refl, refl)
 pub shared_tag :
     Calm image0 × Stores model image0 oil × Stores model image0 belt
     × Stores model (stored model image0 oil) belt × Stores model (stored model image0 belt) oil
-    × (user_value User_Data (decode (stored model (stored model image0 oil) belt)) ≡ 2 ∷ [])
-    × (user_value User_Data (decode (stored model (stored model image0 belt) oil)) ≡ 1 ∷ [])
+    × (user_value UserData (decode (stored model (stored model image0 oil) belt)) ≡ 2 ∷ [])
+    × (user_value UserData (decode (stored model (stored model image0 belt) oil)) ≡ 1 ∷ [])
     × (stored model (stored model image0 oil) belt ≡ stored model (stored model image0 belt) oil → ⊥)
 shared_tag = (
   calm0,
@@ -68,7 +68,7 @@ shared_tag = (
   later_held.0,
   later_held.1,
   λ e.
-      let z = sym later_held.0 ∙ ap (λ m. user_value User_Data (decode m)) e ∙ later_held.1 in
+      let z = sym later_held.0 ∙ ap (λ m. user_value UserData (decode m)) e ∙ later_held.1 in
       let n : ◌≡◌ {A = ℕ} 2 1 = ap (λ l. get_or l 0 0) z in
       absurd (omega arith),
 )
@@ -78,7 +78,7 @@ abbrev slow : List ℕ
 slow = encode (fresh (paused_by 1 sheet0.fixed) sheet0.flags sheet0.codes)
 
 abbrev hidden : Call
-hidden = writes (fld User_Protected_Data (3 ∷ []) ∷ [])
+hidden = writes (fld UserProtectedData (3 ∷ []) ∷ [])
 
 abbrev held : List ℕ
 held = stored model slow hidden
@@ -123,7 +123,7 @@ abbrev loaded : List ℕ
 loaded = stored model image0 creates
 
 abbrev counts : Call
-counts = writes (fld User_Counter (be4 7) ∷ [])
+counts = writes (fld UserCounter (be4 7) ∷ [])
 
 calm1 : Calm loaded
 unfolding run

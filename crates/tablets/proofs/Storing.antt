@@ -25,7 +25,7 @@ use Rattle.manual.specs.Row.{Matched, gate_of, rules, passed, shaped}
 use Rattle.manual.specs.Commands.{row}
 use Rattle.manual.specs.Delay.{entered, is_held}
 use Rattle.manual.specs.Settle.{holding, Call, sent_in, matched, judged_by, done, waiting, card_after}
-use Rattle.history.specs.Demands.{Any_Card, Demand2, wait_in}
+use Rattle.history.specs.Demands.{AnyCard, Demand2, wait_in}
 use Rattle.history.proofs.Choice.{by_ins}
 use Rattle.history.proofs.Theorems.{card_stays}
 use Rattle.waits.proofs.Pace.{enters_sized, wait_whole}
@@ -91,7 +91,7 @@ module _ (m : List ℕ) (o : is_card m ≡ true) (q d a : List ℕ) (g : Goes (d
       }
 
 -- WHAT AN ACCEPTED E0 LEAVES, of any card that meets demand 2
-module _ {f : Any_Card} (h : Demand2 f) {m : List ℕ} {i : Call} (y : Stores f m i) where
+module _ {f : AnyCard} (h : Demand2 f) {m : List ℕ} {i : Call} (y : Stores f m i) where
   pub is_write : command i.request ≡ WriteUserData
   is_write = by_ins WriteUserData refl i.request y.ins
 
@@ -137,7 +137,7 @@ module _ {f : Any_Card} (h : Demand2 f) {m : List ℕ} {i : Call} (y : Stores f 
 
 -- WHAT WAS ACCEPTED IS STILL ACCEPTED, whatever the E0 has in it: another E0, and READ_USER_DATA
 still_accepts :
-    {f : Any_Card} → Demand2 f → {k : Command} → Deaf k → (m : List ℕ) → Ready m → (i j : Call) → Stores f m i → Accepts k f m j
+    {f : AnyCard} → Demand2 f → {k : Command} → Deaf k → (m : List ℕ) → Ready m → (i j : Call) → Stores f m i → Accepts k f m j
     → Accepts k f (stored f m i) j
 still_accepts {f} h {k} z m u i j x y =
     let q = j.request in
@@ -146,8 +146,8 @@ still_accepts {f} h {k} z m u i j x y =
     accepts h m (stored f m i) j (looks h y) (leaves_ready h x u).card k y.ins y.bytes (own.more (matched (decode (stored f m i)).codes (sent_in q)))
     (subst (λ c. Goes c q j.draw j.answers) (sym (spelled h x)) next)
 
-pub still_stores : {f : Any_Card} → Demand2 f → (m : List ℕ) → Ready m → (i j : Call) → Stores f m i → Stores f m j → Stores f (stored f m i) j
+pub still_stores : {f : AnyCard} → Demand2 f → (m : List ℕ) → Ready m → (i j : Call) → Stores f m i → Stores f m j → Stores f (stored f m i) j
 still_stores h = still_accepts h deaf_write
 
-pub still_reads : {f : Any_Card} → Demand2 f → (m : List ℕ) → Ready m → (i j : Call) → Stores f m i → Reads f m j → Reads f (stored f m i) j
+pub still_reads : {f : AnyCard} → Demand2 f → (m : List ℕ) → Ready m → (i j : Call) → Stores f m i → Reads f m j → Reads f (stored f m i) j
 still_reads h = still_accepts h deaf_read

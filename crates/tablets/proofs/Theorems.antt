@@ -11,8 +11,8 @@ use Rattle.manual.specs.Request.{payload}
 use Rattle.manual.specs.Storage.{write_user_data}
 use Rattle.manual.specs.Commands.{row}
 use Rattle.manual.specs.Settle.{Call, sent_in}
-use Rattle.history.specs.Demands.{Any_Card, Demand2, wait_in}
-use Rattle.tablets.specs.Tablets.{Ready, Calm, Stores, stored, Apart, Either_Order}
+use Rattle.history.specs.Demands.{AnyCard, Demand2, wait_in}
+use Rattle.tablets.specs.Tablets.{Ready, Calm, Stores, stored, Apart, EitherOrder}
 use Rattle.tablets.proofs.Accepted.{went}
 use Rattle.tablets.proofs.Written.{wrote, Parted, either, again}
 use Rattle.tablets.proofs.Storing.{calm_ready, none_waited, is_write, leaves, spelled, leaves_calm, still_stores}
@@ -22,7 +22,7 @@ pub parted : (q r : List ℕ) → Apart (payload q) (payload r) → Parted (sent
 unfolding sent_in
 parted q r a = a
 
-module _ (f : Any_Card) (h : Demand2 f) (m : List ℕ) where
+module _ (f : AnyCard) (h : Demand2 f) (m : List ℕ) where
   -- one after the other
   stored_two :
       (u : Ready m) (i j : Call) → Stores f m i → Stores f m j
@@ -30,7 +30,7 @@ module _ (f : Any_Card) (h : Demand2 f) (m : List ℕ) where
   stored_two u i j x y = leaves h (still_stores h m u i j x y) ∙ ap (λ c. encode (wrote (sent_in j.request) c)) (spelled h x)
 
   -- EITHER ORDER
-  pub either_order : Ready m → (i j : Call) → Stores f m i → Stores f m j → Apart (payload i.request) (payload j.request) → Either_Order f m i j
+  pub either_order : Ready m → (i j : Call) → Stores f m i → Stores f m j → Apart (payload i.request) (payload j.request) → EitherOrder f m i j
   either_order u i j x y a =
       record {
         same = stored_two u i j x y ∙ ap encode (either (decode m) (sent_in i.request) (sent_in j.request) (parted i.request j.request a))
@@ -65,7 +65,7 @@ module _ (f : Any_Card) (h : Demand2 f) (m : List ℕ) where
   -- THE PAPER'S WORDS
   pub two_tablets :
       Calm m → (i j : Call) → Stores f m i → Stores f m j → Apart (payload i.request) (payload j.request)
-      → Either_Order f m i j × Calm (stored f m i)
+      → EitherOrder f m i j × Calm (stored f m i)
   two_tablets u i j x y a = (either_order (calm_ready u) i j x y a, leaves_calm h x u)
 
   pub same_twice : Calm m → (i : Call) → Stores f m i → (stored f (stored f m i) i ≡ stored f m i) × Stores f (stored f m i) i

@@ -15,7 +15,7 @@ use Rattle.card.specs.declared.Card.{Card}
 use Rattle.card.specs.Values.{block_of}
 use Rattle.card.specs.Image.{decode}
 use Rattle.manual.specs.Words.{sw_process_completed}
-use Rattle.manual.specs.Tags.{User_Data, User_Protected_Data, User_Counter, User_Protected_Counter}
+use Rattle.manual.specs.Tags.{UserData, UserProtectedData, UserCounter, UserProtectedCounter}
 use Rattle.manual.specs.declared.Command.TheVariants.{ReadUserData}
 use Rattle.manual.specs.Request.{payload}
 use Rattle.manual.specs.Storage.{held_field, read_user_data}
@@ -24,12 +24,12 @@ use Rattle.manual.specs.Settle.{holding, Call, sent_in, matched, fields_of, resp
 use Rattle.facts.proofs.Facts.{small_decode, facts, writes}
 use Rattle.story.specs.Sums.{told_in}
 use Rattle.story.specs.Buffers.{response}
-use Rattle.history.specs.Demands.{Any_Card, Demand2}
+use Rattle.history.specs.Demands.{AnyCard, Demand2}
 use Rattle.history.specs.Facts.{is_of}
 use Rattle.history.proofs.Choice.{by_ins}
 use Rattle.history.proofs.Taps.{val_told}
 use Rattle.waits.proofs.Sending.{says}
-use Rattle.tablets.specs.Tablets.{Ready, Reads, user_tags, is_in, All_Store, stored_all, Sent, Two_By_Two, user_value}
+use Rattle.tablets.specs.Tablets.{Ready, Reads, user_tags, is_in, AllStore, stored_all, Sent, TwoByTwo, user_value}
 use Rattle.tablets.proofs.Accepted.{goes_on_lem, looks, went}
 use Rattle.tablets.proofs.Many.{all_reads}
 use Rattle.tablets.proofs.Held.{by_tag, holds_written}
@@ -54,19 +54,19 @@ module _ (c : Card) (v : View) (d a : List ℕ) where
   y = block_of c.face.held.protected
 
   abbrev numbers : List Tagged
-  numbers = fld User_Counter (be4 c.face.front.counters.user) ∷ fld User_Protected_Counter (be4 c.face.front.counters.protected) ∷ []
+  numbers = fld UserCounter (be4 c.face.front.counters.user) ∷ fld UserProtectedCounter (be4 c.face.front.counters.protected) ∷ []
 
   tells_value : (t : ℕ) → is_of t user_tags ≡ true → first_of t (fields_of read_user_data c.face v d a) ≡ user_value t c
   tells_value =
       by_tag (λ t. first_of t (fields_of read_user_data c.face v d a) ≡ user_value t c)
-      (first_own User_Data x (held_field User_Protected_Data y ++ numbers) (first_other User_Data User_Protected_Data y numbers refl))
-      (first_other User_Protected_Data User_Data x (held_field User_Protected_Data y ++ numbers) refl ∙ first_own User_Protected_Data y numbers refl)
-      (first_other User_Counter User_Data x (held_field User_Protected_Data y ++ numbers) refl ∙ first_other User_Counter User_Protected_Data y numbers refl)
-      (first_other User_Protected_Counter User_Data x (held_field User_Protected_Data y ++ numbers) refl
-      ∙ first_other User_Protected_Counter User_Protected_Data y numbers refl)
+      (first_own UserData x (held_field UserProtectedData y ++ numbers) (first_other UserData UserProtectedData y numbers refl))
+      (first_other UserProtectedData UserData x (held_field UserProtectedData y ++ numbers) refl ∙ first_own UserProtectedData y numbers refl)
+      (first_other UserCounter UserData x (held_field UserProtectedData y ++ numbers) refl ∙ first_other UserCounter UserProtectedData y numbers refl)
+      (first_other UserProtectedCounter UserData x (held_field UserProtectedData y ++ numbers) refl
+      ∙ first_other UserProtectedCounter UserProtectedData y numbers refl)
 
 -- READ_USER_DATA, accepted
-module _ (f : Any_Card) (h : Demand2 f) (m : List ℕ) (i : Call) (r : Reads f m i) where
+module _ (f : AnyCard) (h : Demand2 f) (m : List ℕ) (i : Call) (r : Reads f m i) where
   told :
       response (f.taps.settle (holding m) i)
       ≡ written (fields_of read_user_data (decode m).face (sent_in i.request) i.draw i.answers) ++ be2 sw_process_completed
@@ -89,7 +89,7 @@ module _ (f : Any_Card) (h : Demand2 f) (m : List ℕ) (i : Call) (r : Reads f m
       ∙ tells_value c v i.draw i.answers t l
 
 -- AFTER ANY NUMBER OF E0 that are apart two by two it is accepted where it was before, and tells what was sent, and the old value where nothing was
-module _ (f : Any_Card) (h : Demand2 f) (m : List ℕ) (u : Ready m) (is : List Call) (y : All_Store f m is) (two : Two_By_Two is) (i : Call) (r : Reads f m i) where
+module _ (f : AnyCard) (h : Demand2 f) (m : List ℕ) (u : Ready m) (is : List Call) (y : AllStore f m is) (two : TwoByTwo is) (i : Call) (r : Reads f m i) where
   after : Reads f (stored_all f m is) i
   after = all_reads f h m u is y i r
 

@@ -9,7 +9,7 @@ use Rattle.fields.specs.Fields.{View, has}
 use Rattle.manual.specs.Settle.{Call, sent_in}
 use Rattle.history.specs.Facts.{is_of}
 use Rattle.history.proofs.Choice.{by_cases, clash}
-use Rattle.tablets.specs.Tablets.{user_tags, Sent, now, later, Compatible, again, apart, Two_By_Two, Same_Sent}
+use Rattle.tablets.specs.Tablets.{user_tags, Sent, now, later, Compatible, again, apart, TwoByTwo, SameSent}
 use Rattle.tablets.proofs.Written.{kept}
 use Rattle.tablets.proofs.Theorems.{parted}
 
@@ -67,7 +67,7 @@ module _ {A : Type 0} (t : ℕ) (g : View → A) where
   comes_to (i ∷ is) x z a q (later s) e = comes_to is x (kept t g (sent_in i.request) z) (λ q s. a q (later s)) q s e
 
   -- of requests that are the same or apart, two by two
-  module _ (listed : is_of t user_tags ≡ true) {is : List Call} (two : Two_By_Two is) where
+  module _ (listed : is_of t user_tags ≡ true) {is : List Call} (two : TwoByTwo is) where
     agrees : (q : List ℕ) → Sent q is → has t (sent_in q) ≡ true → Agree is (g (sent_in q))
     agrees q s e r u k = go (two q r s u)
       where
@@ -78,7 +78,7 @@ module _ {A : Type 0} (t : ℕ) (g : View → A) where
     pub comes_from : (z : A) (q : List ℕ) → Sent q is → has t (sent_in q) ≡ true → kept_all t g is z ≡ g (sent_in q)
     comes_from z q s e = comes_to is (g (sent_in q)) z (agrees q s e) q s e
 
-    pub same_value : {js : List Call} → Same_Sent is js → (z : A) → kept_all t g is z ≡ kept_all t g js z
+    pub same_value : {js : List Call} → SameSent is js → (z : A) → kept_all t g is z ≡ kept_all t g js z
     same_value {js} same z = go (looked_for t is)
       where
         go : Somewhere t is ⊎ Nowhere t is → kept_all t g is z ≡ kept_all t g js z

@@ -8,7 +8,7 @@ use Rattle.fields.specs.Fields.{View, has, val}
 use Rattle.card.specs.declared.Block.{Block}
 use Rattle.card.specs.declared.Card.{Card}
 use Rattle.card.specs.Values.{held_block, no_pending, faced}
-use Rattle.manual.specs.Tags.{User_Data, User_Protected_Data, User_Counter, User_Protected_Counter}
+use Rattle.manual.specs.Tags.{UserData, UserProtectedData, UserCounter, UserProtectedCounter}
 use Rattle.manual.specs.Storage.{stored_face}
 use Rattle.manual.specs.Settle.{waiting}
 use Rattle.history.specs.Facts.{is_of}
@@ -67,15 +67,15 @@ module _ (c : Card) where
   pub either : (v w : View) → Parted v w → wrote w (wrote v c) ≡ wrote v (wrote w c)
   either v w e =
       λ j. with_user_data
-      (either_way User_Data (block_in User_Data) v w x (e User_Data refl) j)
-      (either_way User_Protected_Data (block_in User_Protected_Data) v w y (e User_Protected_Data refl) j)
-      (either_way User_Counter (number_in User_Counter) v w n (e User_Counter refl) j)
-      (either_way User_Protected_Counter (number_in User_Protected_Counter) v w k (e User_Protected_Counter refl) j) c
+      (either_way UserData (block_in UserData) v w x (e UserData refl) j)
+      (either_way UserProtectedData (block_in UserProtectedData) v w y (e UserProtectedData refl) j)
+      (either_way UserCounter (number_in UserCounter) v w n (e UserCounter refl) j)
+      (either_way UserProtectedCounter (number_in UserProtectedCounter) v w k (e UserProtectedCounter refl) j) c
 
   pub again : (v : View) → wrote v (wrote v c) ≡ wrote v c
   again v =
       λ j. with_user_data
-      (once_more User_Data (block_in User_Data) v x j)
-      (once_more User_Protected_Data (block_in User_Protected_Data) v y j)
-      (once_more User_Counter (number_in User_Counter) v n j)
-      (once_more User_Protected_Counter (number_in User_Protected_Counter) v k j) c
+      (once_more UserData (block_in UserData) v x j)
+      (once_more UserProtectedData (block_in UserProtectedData) v y j)
+      (once_more UserCounter (number_in UserCounter) v n j)
+      (once_more UserProtectedCounter (number_in UserProtectedCounter) v k j) c

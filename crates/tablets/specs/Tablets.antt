@@ -9,13 +9,13 @@ use Rattle.card.specs.Values.{block_of, no_block, no_pending, faced, with_user, 
 use Rattle.card.specs.Image.{decode}
 use Rattle.card.specs.Valid.{is_card}
 use Rattle.manual.specs.Words.{sw_process_completed}
-use Rattle.manual.specs.Tags.{User_Data, User_Protected_Data, User_Counter, User_Protected_Counter}
+use Rattle.manual.specs.Tags.{UserData, UserProtectedData, UserCounter, UserProtectedCounter}
 use Rattle.manual.specs.declared.Command.{Command}
 use Rattle.manual.specs.declared.Command.TheVariants.{ReadUserData, WriteUserData}
 use Rattle.manual.specs.Request.{code, payload}
 use Rattle.manual.specs.Settle.{holding, Call, sent_in, waiting}
 use Rattle.story.specs.Sums.{ins}
-use Rattle.history.specs.Demands.{Any_Card, wait_in, taps_of, image_by, left}
+use Rattle.history.specs.Demands.{AnyCard, wait_in, taps_of, image_by, left}
 use Rattle.history.specs.Facts.{is_of}
 
 -- "With `pause` 0, no wrong codes counted and no request held": m is a card, in bytes, and of no request a byte is held
@@ -37,26 +37,26 @@ pub record Ready (m : List ℕ) : Type 0 where
 
 -- "accepted when sent alone": a request for this command, in bytes, to which settle, given m, says number 0 and 9000. Draw and buffers are
 -- whatever they are, and may differ from call to call
-pub record Accepts (k : Command) (f : Any_Card) (m : List ℕ) (i : Call) : Type 0 where
+pub record Accepts (k : Command) (f : AnyCard) (m : List ℕ) (i : Call) : Type 0 where
   pub ins : ins i.request ≡ code k
   pub bytes : Bytes i.request
   pub number : (f.taps.settle (holding m) i).result.number ≡ 0
   pub word : (f.taps.settle (holding m) i).result.word ≡ sw_process_completed
 
 -- E0 WRITE_USER_DATA and E1 READ_USER_DATA
-abbrev pub Stores : Any_Card → List ℕ → Call → Type 0
+abbrev pub Stores : AnyCard → List ℕ → Call → Type 0
 Stores = Accepts WriteUserData
 
-abbrev pub Reads : Any_Card → List ℕ → Call → Type 0
+abbrev pub Reads : AnyCard → List ℕ → Call → Type 0
 Reads = Accepts ReadUserData
 
 -- the card afterwards
-abbrev pub stored : Any_Card → List ℕ → Call → List ℕ
+abbrev pub stored : AnyCard → List ℕ → Call → List ℕ
 stored f m i = image_by f (holding m) i
 
 -- "2A to 2D"
 abbrev pub user_tags : List ℕ
-user_tags = User_Data ∷ User_Protected_Data ∷ User_Counter ∷ User_Protected_Counter ∷ []
+user_tags = UserData ∷ UserProtectedData ∷ UserCounter ∷ UserProtectedCounter ∷ []
 
 -- a tag is in a payload; "none of 2A to 2D is in both": presence counts, not content
 abbrev pub is_in : ℕ → List ℕ → Bool
@@ -66,22 +66,22 @@ abbrev pub Apart : List ℕ → List ℕ → Type 0
 Apart p p' = (t : ℕ) → is_of t user_tags ≡ true → (is_in t p && is_in t p') ≡ false
 
 -- "the card afterwards is the same in either order": the image, to the byte; and both are accepted in either order
-pub record Either_Order (f : Any_Card) (m : List ℕ) (i j : Call) : Type 0 where
+pub record EitherOrder (f : AnyCard) (m : List ℕ) (i j : Call) : Type 0 where
   pub same : stored f (stored f m i) j ≡ stored f (stored f m j) i
   pub second : Stores f (stored f m i) j
   pub first : Stores f (stored f m j) i
 
 -- ANY NUMBER OF THEM, each accepted when sent alone; the card after them all, one after the other; and that each is accepted in its turn
-abbrev pub All_Store : Any_Card → List ℕ → List Call → Type 0
-All_Store f m [] = Unit {0}
-All_Store f m (i ∷ is) = Stores f m i × All_Store f m is
+abbrev pub AllStore : AnyCard → List ℕ → List Call → Type 0
+AllStore f m [] = Unit {0}
+AllStore f m (i ∷ is) = Stores f m i × AllStore f m is
 
-abbrev pub stored_all : Any_Card → List ℕ → List Call → List ℕ
+abbrev pub stored_all : AnyCard → List ℕ → List Call → List ℕ
 stored_all f m is = (left f (holding m) (taps_of is)).image
 
-abbrev pub In_Turn : Any_Card → List ℕ → List Call → Type 0
-In_Turn f m [] = Unit {0}
-In_Turn f m (i ∷ is) = Stores f m i × In_Turn f (stored f m i) is
+abbrev pub InTurn : AnyCard → List ℕ → List Call → Type 0
+InTurn f m [] = Unit {0}
+InTurn f m (i ∷ is) = Stores f m i × InTurn f (stored f m i) is
 
 -- q is the request of one of them
 pub data Sent (q : List ℕ) : List Call → Type 0 where
@@ -93,20 +93,20 @@ pub data Compatible (q r : List ℕ) : Type 0 where
   again : q ≡ r → Compatible q r
   apart : Apart (payload q) (payload r) → Compatible q r
 
-abbrev pub Two_By_Two : List Call → Type 0
-Two_By_Two is = (q r : List ℕ) → Sent q is → Sent r is → Compatible q r
+abbrev pub TwoByTwo : List Call → Type 0
+TwoByTwo is = (q r : List ℕ) → Sent q is → Sent r is → Compatible q r
 
 -- the same requests, whatever their order, and however often each is sent
-pub record Same_Sent (is js : List Call) : Type 0 where
+pub record SameSent (is js : List Call) : Type 0 where
   pub there : (q : List ℕ) → Sent q is → Sent q js
   pub back : (q : List ℕ) → Sent q js → Sent q is
 
 -- WHAT A CARD HOLDS under 2A, 2B, 2C or 2D: bytes of data, or a counter in four bytes
 abbrev pub user_value : ℕ → Card → List ℕ
 user_value t c =
-    cond (eqb t User_Data) (block_of c.face.held.user)
-    (cond (eqb t User_Protected_Data) (block_of c.face.held.protected)
-    (cond (eqb t User_Counter) (be4 c.face.front.counters.user)
+    cond (eqb t UserData) (block_of c.face.held.user)
+    (cond (eqb t UserProtectedData) (block_of c.face.held.protected)
+    (cond (eqb t UserCounter) (be4 c.face.front.counters.user)
     (be4 c.face.front.counters.protected)))
 
 -- c with these as its user data, and nothing held or counted; and with none of it
@@ -123,7 +123,7 @@ without_user_data c = with_user_data no_block no_block 0 0 c
 
 -- c' is the card c after these calls: under each of the four tags it holds what the one request with this tag has there, or what c holds where none has;
 -- but for user data and the wait it is c
-pub record Written_By (is : List Call) (c c' : Card) : Type 0 where
+pub record WrittenBy (is : List Call) (c c' : Card) : Type 0 where
   pub sent : (t : ℕ) → is_of t user_tags ≡ true → (q : List ℕ) → Sent q is → is_in t (payload q) ≡ true → user_value t c' ≡ val t (sent_in q)
   pub old : (t : ℕ) → is_of t user_tags ≡ true → ((q : List ℕ) → Sent q is → is_in t (payload q) ≡ false) → user_value t c' ≡ user_value t c
   pub rest : without_user_data c' ≡ without_user_data c

@@ -1,7 +1,7 @@
 -- NO TWO OUTCOMES MEET A PROMISE of tapline: a theorem about each public function's own contract. Assumes nothing.
 use Prim.Native.Nat.{ℕ}
 use mathlib.Core.List.{List}
-use Rattle.wire.specs.One_Outcome.{One_Outcome, One_Seen, plain}
+use Rattle.wire.specs.OneOutcome.{OneOutcome, OneSeen, plain}
 use Rattle.wire.proofs.Unique.{one_equal}
 use Rattle.tapline.specs.contracts.is_tap_line as is_tap_line
 use Rattle.tapline.specs.contracts.request as request
@@ -9,17 +9,17 @@ use Rattle.tapline.specs.contracts.draw as draw
 use Rattle.tapline.specs.contracts.answers as answers
 use Rattle.tapline.specs.contracts.expected as expected
 
-pub is_tap_line_one : One_Outcome is_tap_line.ended (λ M. is_tap_line.clauses {M = M})
+pub is_tap_line_one : OneOutcome is_tap_line.ended (λ M. is_tap_line.clauses {M = M})
 is_tap_line_one M 𝓤 𝓛 m r κs a g z z' ws ws' = plain 𝓤 (λ p q. one_equal p q)
 
-pub request_one : One_Seen request.ended (λ M. request.clauses {M = M}) (List ℕ) (λ κs z. z.now)
+pub request_one : OneSeen request.ended (λ M. request.clauses {M = M}) (List ℕ) (λ κs z. z.now)
 request_one M 𝓤 𝓛 m r κs a g z z' ws ws' = plain 𝓤 (λ p q. one_equal p q)
 
-pub draw_one : One_Seen draw.ended (λ M. draw.clauses {M = M}) (List ℕ) (λ κs z. z.now)
+pub draw_one : OneSeen draw.ended (λ M. draw.clauses {M = M}) (List ℕ) (λ κs z. z.now)
 draw_one M 𝓤 𝓛 m r κs a g z z' ws ws' = plain 𝓤 (λ p q. one_equal p q)
 
-pub answers_one : One_Seen answers.ended (λ M. answers.clauses {M = M}) (List ℕ) (λ κs z. z.now)
+pub answers_one : OneSeen answers.ended (λ M. answers.clauses {M = M}) (List ℕ) (λ κs z. z.now)
 answers_one M 𝓤 𝓛 m r κs a g z z' ws ws' = plain 𝓤 (λ p q. one_equal p q)
 
-pub expected_one : One_Seen expected.ended (λ M. expected.clauses {M = M}) (List ℕ) (λ κs z. z.now)
+pub expected_one : OneSeen expected.ended (λ M. expected.clauses {M = M}) (List ℕ) (λ κs z. z.now)
 expected_one M 𝓤 𝓛 m r κs a g z z' ws ws' = plain 𝓤 (λ p q. one_equal p q)

@@ -1,11 +1,11 @@
 -- NO TWO OUTCOMES MEET A PROMISE of tells: a theorem about each public function's own contract. Assumes nothing.
-use Rattle.wire.specs.One_Outcome.{One_Outcome, plain}
+use Rattle.wire.specs.OneOutcome.{OneOutcome, plain}
 use Rattle.wire.proofs.Unique.{one_equal, one_page}
 use Rattle.tells.specs.contracts.tell as tell
 use Rattle.tells.specs.contracts.word as word
 
-pub tell_one : One_Outcome tell.ended (λ M. tell.clauses {M = M})
+pub tell_one : OneOutcome tell.ended (λ M. tell.clauses {M = M})
 tell_one M 𝓤 𝓛 m r κs a g z z' ws ws' = plain 𝓤 (λ p q. let e = one_page p q in (e.1, λ i. (tt, (tt, (tt, (tt, (tt, (tt, (e.0 i, tt)))))))))
 
-pub word_one : One_Outcome word.ended (λ M. word.clauses {M = M})
+pub word_one : OneOutcome word.ended (λ M. word.clauses {M = M})
 word_one M 𝓤 𝓛 m r κs a g z z' ws ws' = plain 𝓤 (λ p q. one_equal p q)

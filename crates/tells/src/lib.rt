@@ -8,7 +8,7 @@ ghost use Rattle.card.specs.Layout.{signature_size};
 ghost use Rattle.card.specs.Values.{key_of, last_of};
 ghost use Rattle.card.specs.Image.{decode};
 ghost use Rattle.manual.specs.Words.{sw_process_completed};
-ghost use Rattle.manual.specs.Tags.{CID, Curve_ID, Card_Signature, Wallet_Public_Key, Signature};
+ghost use Rattle.manual.specs.Tags.{CID, CurveID, CardSignature, WalletPublicKey, Signature};
 ghost use Rattle.manual.specs.Commands.{row};
 ghost use Rattle.manual.specs.Wallet.{create_wallet, set_pin, sign, purge_wallet, read_fields, active_fields, asleep_fields, wallet_fields, curve_name};
 ghost use Rattle.manual.specs.Checking.{checked_fields, key_fields, verify_card, validate_card};
@@ -129,13 +129,13 @@ fn tell_purged(img: &[u8], out: &mut [u8], at: usize) -> usize
 }
 
 fn put_key(img: &[u8], out: &mut [u8], at: usize) -> usize
-    ensures { Wrote out.old at (tlv Wallet_Public_Key (key_of (decode img.now).face.front.key)) out.new result }
+    ensures { Wrote out.old at (tlv WalletPublicKey (key_of (decode img.now).face.front.key)) out.new result }
 {
     fields::put_field(out, at, tag::WALLET_PUBLIC_KEY, image::key(img))
 }
 
 fn put_curve(curve: u8, out: &mut [u8], at: usize) -> usize
-    ensures { Wrote out.old at (tlv Curve_ID (curve_name curve)) out.new result }
+    ensures { Wrote out.old at (tlv CurveID (curve_name curve)) out.new result }
 {
     if curve == Fixed::SECP256K1 {
         let name = [0x73u8, 0x65, 0x63, 0x70, 0x32, 0x35, 0x36, 0x6B, 0x31];
@@ -283,7 +283,7 @@ fn tell_key(
 }
 
 fn put_card_signature(out: &mut [u8], at: usize, answers: &[u8], start: usize) -> usize
-    ensures { Wrote out.old at (tlv Card_Signature (part answers.now start signature_size)) out.new result }
+    ensures { Wrote out.old at (tlv CardSignature (part answers.now start signature_size)) out.new result }
 {
     put_part(
         out,

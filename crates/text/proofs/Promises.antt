@@ -1,7 +1,7 @@
 -- NO TWO OUTCOMES MEET A PROMISE of text: a theorem about each public function's own contract. Assumes nothing.
 use Prim.Native.Nat.{ℕ}
 use mathlib.Core.List.{List}
-use Rattle.wire.specs.One_Outcome.{One_Outcome, One_Seen, plain}
+use Rattle.wire.specs.OneOutcome.{OneOutcome, OneSeen, plain}
 use Rattle.wire.proofs.Unique.{one_equal, one_write}
 use Rattle.text.specs.contracts.put_hex as put_hex
 use Rattle.text.specs.contracts.put_decimal as put_decimal
@@ -17,41 +17,41 @@ use Rattle.text.specs.contracts.lines.head_to as lines_head_to
 use Rattle.text.specs.contracts.lines.tail_after as lines_tail_after
 use Rattle.text.specs.contracts.lines.line_of as lines_line_of
 
-pub put_hex_one : One_Outcome put_hex.ended (λ M. put_hex.clauses {M = M})
+pub put_hex_one : OneOutcome put_hex.ended (λ M. put_hex.clauses {M = M})
 put_hex_one M 𝓤 𝓛 m r κs a g z z' ws ws' = plain 𝓤 (λ p q. let e = one_write p q in (e.1, λ i. (e.0 i, (tt, (tt, tt)))))
 
-pub put_decimal_one : One_Outcome put_decimal.ended (λ M. put_decimal.clauses {M = M})
+pub put_decimal_one : OneOutcome put_decimal.ended (λ M. put_decimal.clauses {M = M})
 put_decimal_one M 𝓤 𝓛 m r κs a g z z' ws ws' = plain 𝓤 (λ p q. let e = one_write p q in (e.1, λ i. (e.0 i, (tt, (tt, tt)))))
 
-pub unhex_one : One_Outcome unhex.ended (λ M. unhex.clauses {M = M})
+pub unhex_one : OneOutcome unhex.ended (λ M. unhex.clauses {M = M})
 unhex_one M 𝓤 𝓛 m r κs a g z z' ws ws' = plain 𝓤 (λ p q. let e = one_write p q in (e.1, λ i. (tt, (e.0 i, (tt, tt)))))
 
-pub is_hex_one : One_Outcome is_hex.ended (λ M. is_hex.clauses {M = M})
+pub is_hex_one : OneOutcome is_hex.ended (λ M. is_hex.clauses {M = M})
 is_hex_one M 𝓤 𝓛 m r κs a g z z' ws ws' = plain 𝓤 (λ p q. one_equal p q)
 
-pub is_digits_one : One_Outcome is_digits.ended (λ M. is_digits.clauses {M = M})
+pub is_digits_one : OneOutcome is_digits.ended (λ M. is_digits.clauses {M = M})
 is_digits_one M 𝓤 𝓛 m r κs a g z z' ws ws' = plain 𝓤 (λ p q. one_equal p q)
 
-pub number_of_one : One_Outcome number_of_lem.ended (λ M. number_of_lem.clauses {M = M})
+pub number_of_one : OneOutcome number_of_lem.ended (λ M. number_of_lem.clauses {M = M})
 number_of_one M 𝓤 𝓛 m r κs a g z z' ws ws' = plain 𝓤 (λ p q. one_equal p q)
 
-pub lines_length_to_one : One_Outcome lines_length_to.ended (λ M. lines_length_to.clauses {M = M})
+pub lines_length_to_one : OneOutcome lines_length_to.ended (λ M. lines_length_to.clauses {M = M})
 lines_length_to_one M 𝓤 𝓛 m r κs a g z z' ws ws' = plain 𝓤 (λ p q. one_equal p q)
 
-pub lines_next_line_one : One_Outcome lines_next_line.ended (λ M. lines_next_line.clauses {M = M})
+pub lines_next_line_one : OneOutcome lines_next_line.ended (λ M. lines_next_line.clauses {M = M})
 lines_next_line_one M 𝓤 𝓛 m r κs a g z z' ws ws' = plain 𝓤 (λ p q. one_equal p q)
 
-pub lines_start_of_one : One_Outcome lines_start_of.ended (λ M. lines_start_of.clauses {M = M})
+pub lines_start_of_one : OneOutcome lines_start_of.ended (λ M. lines_start_of.clauses {M = M})
 lines_start_of_one M 𝓤 𝓛 m r κs a g z z' ws ws' = plain 𝓤 (λ p q. one_equal p q)
 
-pub lines_is_ended_one : One_Outcome lines_is_ended.ended (λ M. lines_is_ended.clauses {M = M})
+pub lines_is_ended_one : OneOutcome lines_is_ended.ended (λ M. lines_is_ended.clauses {M = M})
 lines_is_ended_one M 𝓤 𝓛 m r κs a g z z' ws ws' = plain 𝓤 (λ p q. one_equal p q)
 
-pub lines_head_to_one : One_Seen lines_head_to.ended (λ M. lines_head_to.clauses {M = M}) (List ℕ) (λ κs z. z.now)
+pub lines_head_to_one : OneSeen lines_head_to.ended (λ M. lines_head_to.clauses {M = M}) (List ℕ) (λ κs z. z.now)
 lines_head_to_one M 𝓤 𝓛 m r κs a g z z' ws ws' = plain 𝓤 (λ p q. one_equal p q)
 
-pub lines_tail_after_one : One_Seen lines_tail_after.ended (λ M. lines_tail_after.clauses {M = M}) (List ℕ) (λ κs z. z.now)
+pub lines_tail_after_one : OneSeen lines_tail_after.ended (λ M. lines_tail_after.clauses {M = M}) (List ℕ) (λ κs z. z.now)
 lines_tail_after_one M 𝓤 𝓛 m r κs a g z z' ws ws' = plain 𝓤 (λ p q. one_equal p q)
 
-pub lines_line_of_one : One_Seen lines_line_of.ended (λ M. lines_line_of.clauses {M = M}) (List ℕ) (λ κs z. z.now)
+pub lines_line_of_one : OneSeen lines_line_of.ended (λ M. lines_line_of.clauses {M = M}) (List ℕ) (λ κs z. z.now)
 lines_line_of_one M 𝓤 𝓛 m r κs a g z z' ws ws' = plain 𝓤 (λ p q. one_equal p q)

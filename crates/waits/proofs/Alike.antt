@@ -20,7 +20,7 @@ use Rattle.manual.specs.Commands.{row}
 use Rattle.manual.specs.Settle.{State, Call, sent_in, matched, judged_by, judged, word_of, Said, done, answered, said_by, said, paced_by, paced, said_to}
 use Rattle.manual.specs.Settle.{Settled, lent, settled_of, posed, paced_reason, paced_word, paced_questions, asked_of}
 use Rattle.facts.proofs.Facts.{facts}
-use Rattle.history.specs.Demands.{Any_Card, Demand2, ask_stop, settle_stop}
+use Rattle.history.specs.Demands.{AnyCard, Demand2, ask_stop, settle_stop}
 use Rattle.history.proofs.Choice.{clash}
 use Rattle.history.proofs.Taps.{not_pause, by_checks}
 use Rattle.history.proofs.Images.{looked_ask}
@@ -32,8 +32,8 @@ is_wait (Refused b) = false
 is_wait (Waits t) = true
 is_wait Goes = false
 
-abbrev pub No_Pause : ℕ → Type 0
-No_Pause w = eqb w sw_need_pause ≡ false
+abbrev pub NoPause : ℕ → Type 0
+NoPause w = eqb w sw_need_pause ≡ false
 
 module _ (c : Card) (q : List ℕ) where
   abbrev x : Matched
@@ -43,30 +43,30 @@ module _ (c : Card) (q : List ℕ) where
   f = c.face
 
   -- where nobody has to wait, the word is another
-  said_word : (d a : List ℕ) → No_Pause (said_to c q d a).word
+  said_word : (d a : List ℕ) → NoPause (said_to c q d a).word
   unfolding said judged_by answered done
   said_word d a =
       let r = row (command q) in
-      by_checks r x f q (λ g. No_Pause (said_by g x f q d a).word)
+      by_checks r x f q (λ g. NoPause (said_by g x f q d a).word)
       (λ n w e _ _. not_pause n w e)
       (λ _.
-      by_cases (λ (s : Said). No_Pause s.word) (shaped (r.questions f (sent_in q) d) a)
+      by_cases (λ (s : Said). NoPause s.word) (shaped (r.questions f (sent_in q) d) a)
       (λ _.
-      by_cases (λ (s : Said). No_Pause s.word) (r.confirmed a)
+      by_cases (λ (s : Said). NoPause s.word) (r.confirmed a)
       (λ _. let few = (facts (command q)).more x in ne_eqb (sw_process_completed + r.more x) sw_need_pause (λ e. omega arith))
       (λ _. refl))
       (λ _. refl))
 
-  verdict_word : No_Pause (word_of (judged x f q))
+  verdict_word : NoPause (word_of (judged x f q))
   unfolding judged_by
-  verdict_word = by_checks (row (command q)) x f q (λ g. No_Pause (word_of g)) (λ n w e _ _. not_pause n w e) (λ _. refl)
+  verdict_word = by_checks (row (command q)) x f q (λ g. NoPause (word_of g)) (λ n w e _ _. not_pause n w e) (λ _. refl)
 
   settle_word : (d a out nxt : List ℕ) → eqb (settled_of c q d a out nxt).result.word sw_need_pause ≡ is_wait (pace_at c q)
   unfolding settled_of lent paced
   settle_word d a out nxt = go (pace_at c q) _
     where
-      lent_word : (s : Said) (y : Card) → No_Pause s.word → No_Pause (lent s y out nxt).result.word
-      lent_word s y e = by_cases (λ (z : Settled). No_Pause z.result.word) (eqb s.number 0) (λ _. e) (λ _. refl)
+      lent_word : (s : Said) (y : Card) → NoPause s.word → NoPause (lent s y out nxt).result.word
+      lent_word s y e = by_cases (λ (z : Settled). NoPause z.result.word) (eqb s.number 0) (λ _. e) (λ _. refl)
 
       go : (p : Pace) (y : Card) → eqb (lent (paced_by p x f q d a) y out nxt).result.word sw_need_pause ≡ is_wait p
       go (Refused b) y = lent_word (paced_by (Refused b) x f q d a) y (said_word d a)
@@ -95,7 +95,7 @@ module _ (c : Card) (q : List ℕ) where
       go Goes e = clash e refl
 
 -- OF ANY CARD that meets demand 2
-module _ {f : Any_Card} (h : Demand2 f) (s : State) (i : Call) where
+module _ {f : AnyCard} (h : Demand2 f) (s : State) (i : Call) where
   pub settle_waits : settle_stop s i ≡ 0 → eqb (f.taps.settle s i).result.word sw_need_pause ≡ is_wait (pace_at (decode s.image) i.request)
   settle_waits e =
       ap (λ z. eqb z.result.word sw_need_pause) (settle_is h s i e)
@@ -107,7 +107,7 @@ module _ {f : Any_Card} (h : Demand2 f) (s : State) (i : Call) where
       ∙ ask_word (decode s.image) i.request i.draw i.buffers.page
 
 -- the same request, sent to both
-module _ (f : Any_Card) (h : Demand2 f) (s : State) (i j : Call) (same : j.request ≡ i.request) (settles : settle_stop s i ≡ 0) (asks : ask_stop s j ≡ 0) where
+module _ (f : AnyCard) (h : Demand2 f) (s : State) (i j : Call) (same : j.request ≡ i.request) (settles : settle_stop s i ≡ 0) (asks : ask_stop s j ≡ 0) where
   pub waits_alike : eqb (f.taps.ask s j).result.word sw_need_pause ≡ eqb (f.taps.settle s i).result.word sw_need_pause
   waits_alike = ask_waits h s j asks ∙ ap (λ q. is_wait (pace_at (decode s.image) q)) same ∙ sym (settle_waits h s i settles)
 

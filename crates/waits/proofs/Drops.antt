@@ -25,7 +25,7 @@ use Rattle.manual.specs.declared.Pace.TheVariants.{Refused, Waits, Goes}
 use Rattle.manual.specs.Delay.{entered, is_held, pending_after, pending_off}
 use Rattle.manual.specs.Settle.{State, Call, sent_in, matched, judged, said, said_by, leaving, paced_by, paced, waiting, card_after, powered_off}
 use Rattle.story.specs.Buffers.{image, image_off}
-use Rattle.history.specs.Demands.{Any_Card, Demand2, settle_stop, off_stop, But_Wait, wait_in, only_counted, image_by}
+use Rattle.history.specs.Demands.{AnyCard, Demand2, settle_stop, off_stop, ButWait, wait_in, only_counted, image_by}
 use Rattle.history.specs.Waiting.{enters, over_wrong, Dropped}
 use Rattle.history.proofs.Choice.{clash}
 use Rattle.history.proofs.Cards.{after}
@@ -52,20 +52,20 @@ refused_card c q d a e =
 not_fewer : (w : Wait) → w.wrong ≤ (counted w).wrong
 not_fewer w = by_cases (λ (n : ℕ). w.wrong ≤ n) (ltb w.wrong most_wrong) (λ _. omega arith) (λ _. omega arith)
 
-module _ (f : Any_Card) (h : Demand2 f) (s : State) (i : Call) (go : settle_stop s i ≡ 0) where
+module _ (f : AnyCard) (h : Demand2 f) (s : State) (i : Call) (go : settle_stop s i ≡ 0) where
   abbrev c : Card
   c = decode s.image
 
   abbrev q : List ℕ
   q = i.request
 
-  refused_keeps : enters c q ≡ false → But_Wait (rested c q) s.image (image_by f s i)
+  refused_keeps : enters c q ≡ false → ButWait (rested c q) s.image (image_by f s i)
   refused_keeps e = rw (settle_is h s i go) (waits_where s i (is_card_lem h s i go) (refused_card c q i.draw i.answers e))
 
   pub refused_drops : enters c q ≡ false → Dropped s.image (image_by f s i)
   refused_drops e = of (over_wrong c q) (refused_keeps e)
     where
-      of : (b : Bool) → But_Wait (pending_after (Refused b) c.face.pending q) s.image (image_by f s i) → Dropped s.image (image_by f s i)
+      of : (b : Bool) → ButWait (pending_after (Refused b) c.face.pending q) s.image (image_by f s i) → Dropped s.image (image_by f s i)
       of true x = record { wrong = (counted (wait_in s.image)).wrong; image = x; counted = not_fewer (wait_in s.image) }
       of false x = record { wrong = (wait_in s.image).wrong; image = x; counted = omega arith }
 
@@ -91,8 +91,8 @@ module _ (f : Any_Card) (h : Demand2 f) (s : State) (i : Call) (go : settle_stop
 
 -- A POWER-OFF: nothing is held, and the count is as it was
 pub off_keeps :
-    (f : Any_Card) → Demand2 f → (s : State) (nxt : List ℕ) → off_stop s nxt ≡ 0
-    → But_Wait (only_counted (wait_in s.image).wrong) s.image (image_off s.image (f.power_off s nxt))
+    (f : AnyCard) → Demand2 f → (s : State) (nxt : List ℕ) → off_stop s nxt ≡ 0
+    → ButWait (only_counted (wait_in s.image).wrong) s.image (image_off s.image (f.power_off s nxt))
 unfolding powered_off
 off_keeps f h s nxt go =
     let m = s.image in
@@ -102,7 +102,7 @@ off_keeps f h s nxt go =
     (but_wait m o (pending_off (decode m).face.pending) refl (dropped_ok (wait_in m) (card_bounds m o).wrong))
 
 pub off_drops :
-    (f : Any_Card) → Demand2 f → (s : State) (nxt : List ℕ) → off_stop s nxt ≡ 0 → Dropped s.image (image_off s.image (f.power_off s nxt))
+    (f : AnyCard) → Demand2 f → (s : State) (nxt : List ℕ) → off_stop s nxt ≡ 0 → Dropped s.image (image_off s.image (f.power_off s nxt))
 off_drops f h s nxt go = record { wrong = (wait_in s.image).wrong; image = off_keeps f h s nxt go; counted = omega arith }
 
 -- OTHER BYTES: what is held after a call is its own request
@@ -123,7 +123,7 @@ own_held c r q l =
         let n : [] ≡ q = alike_same [] q (rw (z, part_none (idle w).request 0) at e) in
         absurd (omega (arith, ap length n))
 
-module _ (f : Any_Card) (h : Demand2 f) (s : State) (i : Call) where
+module _ (f : AnyCard) (h : Demand2 f) (s : State) (i : Call) where
   pub other_drops :
       (f.taps.settle s i).result.number ≡ 0 → (q : List ℕ) → 1 ≤ length q → (q ≡ i.request → ⊥) → is_held (decode (image_by f s i)).face q ≡ false
   unfolding is_held

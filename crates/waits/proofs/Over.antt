@@ -19,8 +19,8 @@ use Rattle.manual.specs.declared.Pace.TheVariants.{Waits}
 use Rattle.manual.specs.Delay.{pending_after}
 use Rattle.manual.specs.Settle.{State, holding, Call, sent_in, matched, pausing, leaving, waiting, said_to, lent}
 use Rattle.facts.proofs.Blind.{bearing, said_blind}
-use Rattle.history.specs.Demands.{Any_Card, Demand2, But_Wait, wait_in, holding_for, tapped, image_by, leaves, left, taps_of}
-use Rattle.history.specs.Waiting.{Sends, All_Send, enters, wait_of, Pauses, settled_over, Over}
+use Rattle.history.specs.Demands.{AnyCard, Demand2, ButWait, wait_in, holding_for, tapped, image_by, leaves, left, taps_of}
+use Rattle.history.specs.Waiting.{Sends, AllSend, enters, wait_of, Pauses, settled_over, Over}
 use Rattle.history.proofs.Delay.{pause_bytes_lem}
 use Rattle.history.proofs.Images.{said_at}
 use Rattle.history.proofs.Theorems.{but_wait}
@@ -41,7 +41,7 @@ module _ (m q : List ℕ) (o : is_card m ≡ true) (e : enters (decode m) q ≡ 
   at_first_lem : Standing m q (wait_of (decode m) q) m
   at_first_lem = record { wait = (decode m).face.pending; card = refl; valid = o; wrong = refl; is_left = refl }
 
-  after_pause : (t : ℕ) (m' : List ℕ) → But_Wait (holding_for (t + 1) q (wait_in m)) m m' → Standing m q t m'
+  after_pause : (t : ℕ) (m' : List ℕ) → ButWait (holding_for (t + 1) q (wait_in m)) m m' → Standing m q t m'
   after_pause t m' b =
       let p = holding_for (t + 1) q (wait_in m) in
       let c = waiting p (decode m) in
@@ -77,7 +77,7 @@ over_blind m m' p i e =
     (lent_leaving no_pending (bearing p s) c.codes q i.buffers.out i.buffers.next ∙ sym same)
 
 -- ONE SENDING, while seconds are left, and when none is
-module _ {f : Any_Card} (h : Demand2 f) (m : List ℕ) (o : is_card m ≡ true) (i : Call) (e : enters (decode m) i.request ≡ true) where
+module _ {f : AnyCard} (h : Demand2 f) (m : List ℕ) (o : is_card m ≡ true) (i : Call) (e : enters (decode m) i.request ≡ true) where
   pauses : (t : ℕ) (s : State) → Sends i.request i → Standing m i.request (t + 1) s.image → Pauses f m s i (t + 1)
   unfolding lent written each joined tlv head_of
   pauses t s x y =
@@ -95,7 +95,7 @@ module _ {f : Any_Card} (h : Demand2 f) (m : List ℕ) (o : is_card m ≡ true) 
       record {
         result = ap (λ z. z.result) (settles_as h s i go u);
         response = says h s i go ∙ ap (λ z. z.response) u ∙ pause_bytes_lem (t + 1);
-        image = subst (But_Wait p m) (sym (leaves_as h s i go u refl ∙ ap encode k)) (but_wait m o p (held_request_long p.wait q) ok);
+        image = subst (ButWait p m) (sym (leaves_as h s i go u refl ∙ ap encode k)) (but_wait m o p (held_request_long p.wait q) ok);
       }
 
   over : (s : State) → Sends i.request i → Standing m i.request 0 s.image → Over f m s i
@@ -115,7 +115,7 @@ module _ {f : Any_Card} (h : Demand2 f) (m : List ℕ) (o : is_card m ≡ true) 
       }
 
 -- THE WAIT
-module _ (f : Any_Card) (h : Demand2 f) (m q : List ℕ) (o : is_card m ≡ true) (e : enters (decode m) q ≡ true) where
+module _ (f : AnyCard) (h : Demand2 f) (m q : List ℕ) (o : is_card m ≡ true) (e : enters (decode m) q ≡ true) where
   -- of what is sent, the request is q
   of_request :
       (P : List ℕ → Type 0) {i : Call} → Sends q i → (enters (decode m) i.request ≡ true → Sends i.request i → P i.request) → P q
@@ -125,7 +125,7 @@ module _ (f : Any_Card) (h : Demand2 f) (m q : List ℕ) (o : is_card m ≡ true
 
   -- n sendings take n seconds off
   walks :
-      (is : List Call) → All_Send q is → (t u : ℕ) → t ≡ length is + u → (s : State) → Standing m q t s.image
+      (is : List Call) → AllSend q is → (t u : ℕ) → t ≡ length is + u → (s : State) → Standing m q t s.image
       → Standing m q u (left f s (taps_of is)).image
   walks [] x t u n s y = subst (λ t. Standing m q t s.image) (omega arith) y
   walks (i ∷ is) x t u n s y =
@@ -135,12 +135,12 @@ module _ (f : Any_Card) (h : Demand2 f) (m q : List ℕ) (o : is_card m ≡ true
       (λ g w z. after_pause m i.request o g k (image_by f s i) (pauses h m o i g k s w z).image)
       (subst (λ t. Standing m q t s.image) (omega arith) y))
 
-  stands : (is : List Call) → All_Send q is → (u : ℕ) → wait_of (decode m) q ≡ length is + u → Standing m q u (left f (holding m) (taps_of is)).image
+  stands : (is : List Call) → AllSend q is → (u : ℕ) → wait_of (decode m) q ≡ length is + u → Standing m q u (left f (holding m) (taps_of is)).image
   stands is x u n = walks is x (wait_of (decode m) q) u n (holding m) (at_first_lem m q o e)
 
   -- with T seconds to wait, the sendings after 0 to T - 1 others are told how many are left, and the one after T others goes on
   pub wait_over :
-      (is : List Call) (i : Call) → All_Send q is → Sends q i
+      (is : List Call) (i : Call) → AllSend q is → Sends q i
       → (length is < wait_of (decode m) q → Pauses f m (left f (holding m) (taps_of is)) i (wait_of (decode m) q - length is))
       × (length is ≡ wait_of (decode m) q → Over f m (left f (holding m) (taps_of is)) i)
   wait_over is i x y =
@@ -156,12 +156,12 @@ module _ (f : Any_Card) (h : Demand2 f) (m q : List ℕ) (o : is_card m ≡ true
       )
 
 -- NUMBER 4 LEAVES ALL AS IT WAS, whatever was sent
-pub four_leaves : (f : Any_Card) (s : State) (j : Call) → (f.taps.settle s j).result.number ≡ 4 → image_by f s j ≡ s.image
+pub four_leaves : (f : AnyCard) (s : State) (j : Call) → (f.taps.settle s j).result.number ≡ 4 → image_by f s j ≡ s.image
 four_leaves f s j e = rw e refl
 
 -- so the next sending goes on
 pub four_again :
-    (f : Any_Card) → Demand2 f → (m q : List ℕ) → is_card m ≡ true → enters (decode m) q ≡ true → (is : List Call) (j i : Call) → All_Send q is → Sends q i
+    (f : AnyCard) → Demand2 f → (m q : List ℕ) → is_card m ≡ true → enters (decode m) q ≡ true → (is : List Call) (j i : Call) → AllSend q is → Sends q i
     → length is ≡ wait_of (decode m) q → (f.taps.settle (left f (holding m) (taps_of is)) j).result.number ≡ 4
     → Over f m (leaves f (left f (holding m) (taps_of is)) (tapped j)) i
 four_again f h m q o e is j i x y n z =

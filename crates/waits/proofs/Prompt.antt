@@ -21,7 +21,7 @@ use Rattle.manual.specs.Delay.{entered, wrong_code, is_held, pending_after}
 use Rattle.manual.specs.Settle.{State, Call, sent_in, matched, judged, word_of, reason_of, Said, leaving, paced_by, waiting, card_after, said_to, lent, posed}
 use Rattle.manual.specs.Settle.{questions_of, paced_reason, paced_word, paced_questions, asked_of}
 use Rattle.facts.proofs.Blind.{said_pending}
-use Rattle.history.specs.Demands.{Any_Card, Demand2, ask_stop, settle_stop, only_counted}
+use Rattle.history.specs.Demands.{AnyCard, Demand2, ask_stop, settle_stop, only_counted}
 use Rattle.history.specs.Waiting.{enters, wait_of, over_wrong, Prompt}
 use Rattle.history.proofs.Images.{looked_ask}
 use Rattle.waits.proofs.Pace.{by_pace, paced_by_lem}
@@ -42,7 +42,7 @@ module _ (c : Card) (n : Prompt c) (q : List ℕ) where
       (λ _. rw n.pending refl)
       (λ _. rw (n.pending, n.pause) (by_cases (λ (t : ℕ). u8 (0 + t) ≡ 0) ((row (command q)).pin2 (sent_in q)) (λ _. refl) (λ _. refl)))
 
-module _ (f : Any_Card) (h : Demand2 f) (s : State) (i : Call) (n : Prompt (decode s.image)) where
+module _ (f : AnyCard) (h : Demand2 f) (s : State) (i : Call) (n : Prompt (decode s.image)) where
   abbrev c : Card
   c = decode s.image
 

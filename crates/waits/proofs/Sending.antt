@@ -15,7 +15,7 @@ use Rattle.card.specs.Valid.{is_card}
 use Rattle.manual.specs.Words.{response_room, draw_size}
 use Rattle.manual.specs.Settle.{State, Call, Said, leaving, waiting, card_after, lent, settled_of, roomy}
 use Rattle.story.specs.Buffers.{image, response}
-use Rattle.history.specs.Demands.{Any_Card, Demand2, settle_stop, image_by}
+use Rattle.history.specs.Demands.{AnyCard, Demand2, settle_stop, image_by}
 use Rattle.history.specs.Waiting.{Sends}
 use Rattle.history.proofs.Theorems.{demand1}
 use Rattle.history.proofs.Images.{said_at, card_at, settled_at, stop_none, looked, response_is, image_bytes, image_is}
@@ -48,7 +48,7 @@ sends_goes {i = i} s o x =
     let b = i.buffers in
     rw (o, le-leb response_room (length b.out) x.out, le-leb image_room (length b.next) x.next, eq-eqb (length i.draw) draw_size x.draw) refl
 
-module _ {f : Any_Card} (h : Demand2 f) (s : State) (i : Call) (go : settle_stop s i ≡ 0) where
+module _ {f : AnyCard} (h : Demand2 f) (s : State) (i : Call) (go : settle_stop s i ≡ 0) where
   pub is_card_lem : is_card s.image ≡ true
   is_card_lem = (stop_none (is_card s.image) (roomy (length i.buffers.out) (length i.buffers.next)) (eqb (length i.draw) draw_size) go).0
 
@@ -78,7 +78,7 @@ module _ {f : Any_Card} (h : Demand2 f) (s : State) (i : Call) (go : settle_stop
         ∙ rw (e, n) refl
 
 -- with number 0 it is none of 1 to 3
-pub number_goes : {f : Any_Card} → Demand2 f → (s : State) (i : Call) → (f.taps.settle s i).result.number ≡ 0 → settle_stop s i ≡ 0
+pub number_goes : {f : AnyCard} → Demand2 f → (s : State) (i : Call) → (f.taps.settle s i).result.number ≡ 0 → settle_stop s i ≡ 0
 number_goes {f} h s i n = go (eqb (settle_stop s i) 0) refl
   where
     go : (b : Bool) → eqb (settle_stop s i) 0 ≡ b → settle_stop s i ≡ 0

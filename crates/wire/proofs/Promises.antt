@@ -1,7 +1,7 @@
 -- NO TWO OUTCOMES MEET A PROMISE of wire: a theorem about each public function's own contract. Assumes nothing.
 use Prim.Native.Nat.{ℕ}
 use mathlib.Core.List.{List}
-use Rattle.wire.specs.One_Outcome.{One_Outcome, One_Seen, plain}
+use Rattle.wire.specs.OneOutcome.{OneOutcome, OneSeen, plain}
 use Rattle.wire.proofs.Unique.{one_equal, one_write}
 use Rattle.wire.specs.contracts.give3 as give3
 use Rattle.wire.specs.contracts.give8 as give8
@@ -32,86 +32,86 @@ use Rattle.wire.specs.contracts.zero_from as zero_from
 use Rattle.wire.specs.contracts.part as part
 use Rattle.wire.specs.contracts.rest as rest
 
-pub give3_one : One_Outcome give3.ended (λ M. give3.clauses {M = M})
+pub give3_one : OneOutcome give3.ended (λ M. give3.clauses {M = M})
 give3_one M 𝓤 𝓛 m r κs a g z z' ws ws' = plain 𝓤 (λ p q. let e = one_write p.0 q.0 in (e.1, λ i. (e.0 i, (tt, (tt, tt)))))
 
-pub give8_one : One_Outcome give8.ended (λ M. give8.clauses {M = M})
+pub give8_one : OneOutcome give8.ended (λ M. give8.clauses {M = M})
 give8_one M 𝓤 𝓛 m r κs a g z z' ws ws' = plain 𝓤 (λ p q. let e = one_write p.0 q.0 in (e.1, λ i. (e.0 i, (tt, (tt, tt)))))
 
-pub give16_one : One_Outcome give16.ended (λ M. give16.clauses {M = M})
+pub give16_one : OneOutcome give16.ended (λ M. give16.clauses {M = M})
 give16_one M 𝓤 𝓛 m r κs a g z z' ws ws' = plain 𝓤 (λ p q. let e = one_write p.0 q.0 in (e.1, λ i. (e.0 i, (tt, (tt, tt)))))
 
-pub give32_one : One_Outcome give32.ended (λ M. give32.clauses {M = M})
+pub give32_one : OneOutcome give32.ended (λ M. give32.clauses {M = M})
 give32_one M 𝓤 𝓛 m r κs a g z z' ws ws' = plain 𝓤 (λ p q. let e = one_write p.0 q.0 in (e.1, λ i. (e.0 i, (tt, (tt, tt)))))
 
-pub give64_one : One_Outcome give64.ended (λ M. give64.clauses {M = M})
+pub give64_one : OneOutcome give64.ended (λ M. give64.clauses {M = M})
 give64_one M 𝓤 𝓛 m r κs a g z z' ws ws' = plain 𝓤 (λ p q. let e = one_write p.0 q.0 in (e.1, λ i. (e.0 i, (tt, (tt, tt)))))
 
-pub give65_one : One_Outcome give65.ended (λ M. give65.clauses {M = M})
+pub give65_one : OneOutcome give65.ended (λ M. give65.clauses {M = M})
 give65_one M 𝓤 𝓛 m r κs a g z z' ws ws' = plain 𝓤 (λ p q. let e = one_write p.0 q.0 in (e.1, λ i. (e.0 i, (tt, (tt, tt)))))
 
-pub give512_one : One_Outcome give512.ended (λ M. give512.clauses {M = M})
+pub give512_one : OneOutcome give512.ended (λ M. give512.clauses {M = M})
 give512_one M 𝓤 𝓛 m r κs a g z z' ws ws' = plain 𝓤 (λ p q. let e = one_write p.0 q.0 in (e.1, λ i. (e.0 i, (tt, (tt, tt)))))
 
-pub give640_one : One_Outcome give640.ended (λ M. give640.clauses {M = M})
+pub give640_one : OneOutcome give640.ended (λ M. give640.clauses {M = M})
 give640_one M 𝓤 𝓛 m r κs a g z z' ws ws' = plain 𝓤 (λ p q. let e = one_write p.0 q.0 in (e.1, λ i. (e.0 i, (tt, (tt, tt)))))
 
-pub give1024_one : One_Outcome give1024.ended (λ M. give1024.clauses {M = M})
+pub give1024_one : OneOutcome give1024.ended (λ M. give1024.clauses {M = M})
 give1024_one M 𝓤 𝓛 m r κs a g z z' ws ws' = plain 𝓤 (λ p q. let e = one_write p.0 q.0 in (e.1, λ i. (e.0 i, (tt, (tt, tt)))))
 
-pub put_padded_one : One_Outcome put_padded.ended (λ M. put_padded.clauses {M = M})
+pub put_padded_one : OneOutcome put_padded.ended (λ M. put_padded.clauses {M = M})
 put_padded_one M 𝓤 𝓛 m r κs a g z z' ws ws' = plain 𝓤 (λ p q. let e = one_write p q in (e.1, λ i. (e.0 i, (tt, (tt, (tt, tt))))))
 
-pub put_bytes_one : One_Outcome put_bytes.ended (λ M. put_bytes.clauses {M = M})
+pub put_bytes_one : OneOutcome put_bytes.ended (λ M. put_bytes.clauses {M = M})
 put_bytes_one M 𝓤 𝓛 m r κs a g z z' ws ws' = plain 𝓤 (λ p q. let e = one_write p q in (e.1, λ i. (e.0 i, (tt, (tt, tt)))))
 
-pub put8_one : One_Outcome put8.ended (λ M. put8.clauses {M = M})
+pub put8_one : OneOutcome put8.ended (λ M. put8.clauses {M = M})
 put8_one M 𝓤 𝓛 m r κs a g z z' ws ws' = plain 𝓤 (λ p q. let e = one_write p q in (e.1, λ i. (e.0 i, (tt, (tt, tt)))))
 
-pub put16_one : One_Outcome put16.ended (λ M. put16.clauses {M = M})
+pub put16_one : OneOutcome put16.ended (λ M. put16.clauses {M = M})
 put16_one M 𝓤 𝓛 m r κs a g z z' ws ws' = plain 𝓤 (λ p q. let e = one_write p q in (e.1, λ i. (e.0 i, (tt, (tt, tt)))))
 
-pub put32_one : One_Outcome put32.ended (λ M. put32.clauses {M = M})
+pub put32_one : OneOutcome put32.ended (λ M. put32.clauses {M = M})
 put32_one M 𝓤 𝓛 m r κs a g z z' ws ws' = plain 𝓤 (λ p q. let e = one_write p q in (e.1, λ i. (e.0 i, (tt, (tt, tt)))))
 
-pub wide_one : One_Outcome wide.ended (λ M. wide.clauses {M = M})
+pub wide_one : OneOutcome wide.ended (λ M. wide.clauses {M = M})
 wide_one M 𝓤 𝓛 m r κs a g z z' ws ws' = plain 𝓤 (λ p q. one_equal p.0 q.0)
 
-pub pad3_one : One_Outcome pad3.ended (λ M. pad3.clauses {M = M})
+pub pad3_one : OneOutcome pad3.ended (λ M. pad3.clauses {M = M})
 pad3_one M 𝓤 𝓛 m r κs a g z z' ws ws' = plain 𝓤 (λ p q. one_equal p.0 q.0)
 
-pub checked_one : One_Outcome checked.ended (λ M. checked.clauses {M = M})
+pub checked_one : OneOutcome checked.ended (λ M. checked.clauses {M = M})
 checked_one M 𝓤 𝓛 m r κs a g z z' ws ws' = plain 𝓤 (λ p q. one_equal p q)
 
-pub both_one : One_Outcome both.ended (λ M. both.clauses {M = M})
+pub both_one : OneOutcome both.ended (λ M. both.clauses {M = M})
 both_one M 𝓤 𝓛 m r κs a g z z' ws ws' = plain 𝓤 (λ p q. one_equal p q)
 
-pub either_one : One_Outcome either.ended (λ M. either.clauses {M = M})
+pub either_one : OneOutcome either.ended (λ M. either.clauses {M = M})
 either_one M 𝓤 𝓛 m r κs a g z z' ws ws' = plain 𝓤 (λ p q. one_equal p q)
 
-pub unless_one : One_Outcome unless.ended (λ M. unless.clauses {M = M})
+pub unless_one : OneOutcome unless.ended (λ M. unless.clauses {M = M})
 unless_one M 𝓤 𝓛 m r κs a g z z' ws ws' = plain 𝓤 (λ p q. one_equal p q)
 
-pub get8_one : One_Outcome get8.ended (λ M. get8.clauses {M = M})
+pub get8_one : OneOutcome get8.ended (λ M. get8.clauses {M = M})
 get8_one M 𝓤 𝓛 m r κs a g z z' ws ws' = plain 𝓤 (λ p q. one_equal p q)
 
-pub get16_one : One_Outcome get16.ended (λ M. get16.clauses {M = M})
+pub get16_one : OneOutcome get16.ended (λ M. get16.clauses {M = M})
 get16_one M 𝓤 𝓛 m r κs a g z z' ws ws' = plain 𝓤 (λ p q. one_equal p q)
 
-pub get32_one : One_Outcome get32.ended (λ M. get32.clauses {M = M})
+pub get32_one : OneOutcome get32.ended (λ M. get32.clauses {M = M})
 get32_one M 𝓤 𝓛 m r κs a g z z' ws ws' = plain 𝓤 (λ p q. one_equal p q)
 
-pub has_room_one : One_Outcome has_room.ended (λ M. has_room.clauses {M = M})
+pub has_room_one : OneOutcome has_room.ended (λ M. has_room.clauses {M = M})
 has_room_one M 𝓤 𝓛 m r κs a g z z' ws ws' = plain 𝓤 (λ p q. one_equal p q)
 
-pub equal_one : One_Outcome equal.ended (λ M. equal.clauses {M = M})
+pub equal_one : OneOutcome equal.ended (λ M. equal.clauses {M = M})
 equal_one M 𝓤 𝓛 m r κs a g z z' ws ws' = plain 𝓤 (λ p q. one_equal p q)
 
-pub zero_from_one : One_Outcome zero_from.ended (λ M. zero_from.clauses {M = M})
+pub zero_from_one : OneOutcome zero_from.ended (λ M. zero_from.clauses {M = M})
 zero_from_one M 𝓤 𝓛 m r κs a g z z' ws ws' = plain 𝓤 (λ p q. one_equal p q)
 
-pub part_one : One_Seen part.ended (λ M. part.clauses {M = M}) (List ℕ) (λ κs z. z.now)
+pub part_one : OneSeen part.ended (λ M. part.clauses {M = M}) (List ℕ) (λ κs z. z.now)
 part_one M 𝓤 𝓛 m r κs a g z z' ws ws' = plain 𝓤 (λ p q. one_equal p q)
 
-pub rest_one : One_Seen rest.ended (λ M. rest.clauses {M = M}) (List ℕ) (λ κs z. z.now)
+pub rest_one : OneSeen rest.ended (λ M. rest.clauses {M = M}) (List ℕ) (λ κs z. z.now)
 rest_one M 𝓤 𝓛 m r κs a g z z' ws ws' = plain 𝓤 (λ p q. one_equal p q)

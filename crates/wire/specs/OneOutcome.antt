@@ -17,16 +17,16 @@ Written T = (M : Type 1) (𝓤 : Ura M) → (𝓛 : Logic 𝓤) → (Memory → 
 
 -- an outcome: the result, and the last value of every parameter lent by &mut. `see` is what is looked at of the result: all of it, or what a reference
 -- shows
-abbrev pub One_Seen : (T : Ended) → Written T → (X : Type 0) → ((κs : Lfts T.signature.lifetimes) → Res T.signature κs → X) → Type 2
-One_Seen T c X see =
+abbrev pub OneSeen : (T : Ended) → Written T → (X : Type 0) → ((κs : Lfts T.signature.lifetimes) → Res T.signature κs → X) → Type 2
+OneSeen T c X see =
     (M : Type 1) (𝓤 : Ura M) (𝓛 : Logic 𝓤) (mem : Memory → SProp 𝓤) (run : Routine → Fun 𝓤)
     (κs : Lfts T.signature.lifetimes) (a : Args T.signature κs) (g : (c M 𝓤 𝓛 mem run κs a).ghost)
     (z z' : Res T.signature κs) (ws ws' : Lasts T κs a)
     → ent 𝓤 (sep 𝓤 ((c M 𝓤 𝓛 mem run κs a).ensures g z (at_exit T κs a ws)) ((c M 𝓤 𝓛 mem run κs a).ensures g z' (at_exit T κs a ws')))
     (fact 𝓤 ((see κs z ≡ see κs z') × (ws ≡ ws')))
 
-abbrev pub One_Outcome : (T : Ended) → Written T → Type 2
-One_Outcome T c =
+abbrev pub OneOutcome : (T : Ended) → Written T → Type 2
+OneOutcome T c =
     (M : Type 1) (𝓤 : Ura M) (𝓛 : Logic 𝓤) (mem : Memory → SProp 𝓤) (run : Routine → Fun 𝓤)
     (κs : Lfts T.signature.lifetimes) (a : Args T.signature κs) (g : (c M 𝓤 𝓛 mem run κs a).ghost)
     (z z' : Res T.signature κs) (ws ws' : Lasts T κs a)

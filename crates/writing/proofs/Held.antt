@@ -30,14 +30,14 @@ use Rattle.card.specs.contracts.Held as held
 use Rattle.card.specs.contracts.Face as face
 use Rattle.card.specs.contracts.Card as card
 use Rattle.card.specs.Layout.{pin_size, cid_size, cvc_size, seed_size, key_room, data_room, signature_size, held_room, last_room}
-use Rattle.card.specs.Shape.{Shape_Codes, Shape_Fixed, Shape_Issuer, Shape_Front, Shape_Held, Shape_Face, Shape}
+use Rattle.card.specs.Shape.{ShapeCodes, ShapeFixed, ShapeIssuer, ShapeFront, ShapeHeld, ShapeFace, Shape}
 
-codes_held : (x : Codes) (vs : List Val) → Is (row codes.the_type) x vs → Shape_Codes x
+codes_held : (x : Codes) (vs : List Val) → Is (row codes.the_type) x vs → ShapeCodes x
 codes_held x vs g =
     let f = g.1.1 in
     record { pin1 = length_unmapped ℕ x.pin1 pin_size f.0.1.0.1; pin2 = length_unmapped ℕ x.pin2 pin_size f.1.0.1.0.1 }
 
-fixed_held : (x : Fixed) (vs : List Val) → Is (row fixed.the_type) x vs → Shape_Fixed x
+fixed_held : (x : Fixed) (vs : List Val) → Is (row fixed.the_type) x vs → ShapeFixed x
 fixed_held x vs g =
     let f = g.1.1 in
     record {
@@ -52,7 +52,7 @@ key_held x vs g = length_unmapped ℕ x.bytes key_room g.1.1.1.0.1.0.1
 block_held : (x : Block) (vs : List Val) → Is (row block.the_type) x vs → length x.bytes ≡ data_room
 block_held x vs g = length_unmapped ℕ x.bytes data_room g.1.1.1.0.1.0.1
 
-issuer_held : (x : Issuer) (vs : List Val) → Is (row issuer.the_type) x vs → Shape_Issuer x
+issuer_held : (x : Issuer) (vs : List Val) → Is (row issuer.the_type) x vs → ShapeIssuer x
 issuer_held x vs g =
     let f = g.1.1 in
     record { block = block_held x.block _ f.0; signature = length_unmapped ℕ x.signature signature_size f.1.0.1.0.1 }
@@ -63,17 +63,17 @@ pending_held x vs g = length_unmapped ℕ x.request held_room g.1.1.1.0.1.0.1
 last_held : (x : Last) (vs : List Val) → Is (row last.the_type) x vs → length x.signatures ≡ last_room
 last_held x vs g = length_unmapped ℕ x.signatures last_room g.1.1.1.0.1.0.1
 
-front_held : (x : Front) (vs : List Val) → Is (row front.the_type) x vs → Shape_Front x
+front_held : (x : Front) (vs : List Val) → Is (row front.the_type) x vs → ShapeFront x
 front_held x vs g =
     let f = g.1.1 in
     record { fixed = fixed_held x.fixed _ f.0; key = key_held x.key _ f.1.1.1.0 }
 
-held_held : (x : Held) (vs : List Val) → Is (row held.the_type) x vs → Shape_Held x
+held_held : (x : Held) (vs : List Val) → Is (row held.the_type) x vs → ShapeHeld x
 held_held x vs g =
     let f = g.1.1 in
     record { user = block_held x.user _ f.0; protected = block_held x.protected _ f.1.0; issuer = issuer_held x.issuer _ f.1.1.0 }
 
-face_held : (x : Face) (vs : List Val) → Is (row face.the_type) x vs → Shape_Face x
+face_held : (x : Face) (vs : List Val) → Is (row face.the_type) x vs → ShapeFace x
 face_held x vs g =
     let f = g.1.1 in
     record {

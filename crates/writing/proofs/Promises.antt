@@ -1,5 +1,5 @@
 -- NO TWO OUTCOMES MEET A PROMISE of writing: a theorem about each public function's own contract. Assumes nothing.
-use Rattle.wire.specs.One_Outcome.{One_Outcome, plain}
+use Rattle.wire.specs.OneOutcome.{OneOutcome, plain}
 use Rattle.wire.proofs.Unique.{one_write}
 use Rattle.writing.specs.contracts.write as write
 use Rattle.writing.specs.contracts.anew.issuer as anew_issuer
@@ -14,38 +14,38 @@ use Rattle.writing.specs.contracts.anew.pause as anew_pause
 use Rattle.writing.specs.contracts.anew.pending as anew_pending
 use Rattle.writing.specs.contracts.anew.last as anew_last
 
-pub write_one : One_Outcome write.ended (λ M. write.clauses {M = M})
+pub write_one : OneOutcome write.ended (λ M. write.clauses {M = M})
 write_one M 𝓤 𝓛 m r κs a g z z' ws ws' = plain 𝓤 (λ p q. let e = one_write p.0 q.0 in (e.1, λ i. (tt, (e.0 i, tt))))
 
-pub anew_issuer_one : One_Outcome anew_issuer.ended (λ M. anew_issuer.clauses {M = M})
+pub anew_issuer_one : OneOutcome anew_issuer.ended (λ M. anew_issuer.clauses {M = M})
 anew_issuer_one M 𝓤 𝓛 m r κs a g z z' ws ws' = plain 𝓤 (λ p q. let e = one_write p q in (e.1, λ i. (e.0 i, (tt, (tt, (tt, tt))))))
 
-pub anew_codes_one : One_Outcome anew_codes.ended (λ M. anew_codes.clauses {M = M})
+pub anew_codes_one : OneOutcome anew_codes.ended (λ M. anew_codes.clauses {M = M})
 anew_codes_one M 𝓤 𝓛 m r κs a g z z' ws ws' = plain 𝓤 (λ p q. let e = one_write p q in (e.1, λ i. (e.0 i, (tt, (tt, tt)))))
 
-pub anew_flags_one : One_Outcome anew_flags.ended (λ M. anew_flags.clauses {M = M})
+pub anew_flags_one : OneOutcome anew_flags.ended (λ M. anew_flags.clauses {M = M})
 anew_flags_one M 𝓤 𝓛 m r κs a g z z' ws ws' = plain 𝓤 (λ p q. let e = one_write p q in (e.1, λ i. (e.0 i, (tt, tt))))
 
-pub anew_wallet_one : One_Outcome anew_wallet.ended (λ M. anew_wallet.clauses {M = M})
+pub anew_wallet_one : OneOutcome anew_wallet.ended (λ M. anew_wallet.clauses {M = M})
 anew_wallet_one M 𝓤 𝓛 m r κs a g z z' ws ws' = plain 𝓤 (λ p q. let e = one_write p q in (e.1, λ i. (e.0 i, (tt, tt))))
 
-pub anew_key_one : One_Outcome anew_key.ended (λ M. anew_key.clauses {M = M})
+pub anew_key_one : OneOutcome anew_key.ended (λ M. anew_key.clauses {M = M})
 anew_key_one M 𝓤 𝓛 m r κs a g z z' ws ws' = plain 𝓤 (λ p q. let e = one_write p q in (e.1, λ i. (e.0 i, (tt, tt))))
 
-pub anew_counters_one : One_Outcome anew_counters.ended (λ M. anew_counters.clauses {M = M})
+pub anew_counters_one : OneOutcome anew_counters.ended (λ M. anew_counters.clauses {M = M})
 anew_counters_one M 𝓤 𝓛 m r κs a g z z' ws ws' = plain 𝓤 (λ p q. let e = one_write p q in (e.1, λ i. (e.0 i, (tt, tt))))
 
-pub anew_user_one : One_Outcome anew_user.ended (λ M. anew_user.clauses {M = M})
+pub anew_user_one : OneOutcome anew_user.ended (λ M. anew_user.clauses {M = M})
 anew_user_one M 𝓤 𝓛 m r κs a g z z' ws ws' = plain 𝓤 (λ p q. let e = one_write p q in (e.1, λ i. (e.0 i, (tt, tt))))
 
-pub anew_protected_one : One_Outcome anew_protected.ended (λ M. anew_protected.clauses {M = M})
+pub anew_protected_one : OneOutcome anew_protected.ended (λ M. anew_protected.clauses {M = M})
 anew_protected_one M 𝓤 𝓛 m r κs a g z z' ws ws' = plain 𝓤 (λ p q. let e = one_write p q in (e.1, λ i. (e.0 i, (tt, tt))))
 
-pub anew_pause_one : One_Outcome anew_pause.ended (λ M. anew_pause.clauses {M = M})
+pub anew_pause_one : OneOutcome anew_pause.ended (λ M. anew_pause.clauses {M = M})
 anew_pause_one M 𝓤 𝓛 m r κs a g z z' ws ws' = plain 𝓤 (λ p q. let e = one_write p q in (e.1, λ i. (e.0 i, (tt, tt))))
 
-pub anew_pending_one : One_Outcome anew_pending.ended (λ M. anew_pending.clauses {M = M})
+pub anew_pending_one : OneOutcome anew_pending.ended (λ M. anew_pending.clauses {M = M})
 anew_pending_one M 𝓤 𝓛 m r κs a g z z' ws ws' = plain 𝓤 (λ p q. let e = one_write p q in (e.1, λ i. (e.0 i, (tt, (tt, tt)))))
 
-pub anew_last_one : One_Outcome anew_last.ended (λ M. anew_last.clauses {M = M})
+pub anew_last_one : OneOutcome anew_last.ended (λ M. anew_last.clauses {M = M})
 anew_last_one M 𝓤 𝓛 m r κs a g z z' ws ws' = plain 𝓤 (λ p q. let e = one_write p q in (e.1, λ i. (e.0 i, (tt, tt))))

@@ -24,7 +24,7 @@ use Rattle.card.specs.Values.{held_key, held_block, held_issuer, held_request, h
 use Rattle.card.specs.Values.{with_pause, with_flags, with_wallet, with_key, with_counters, with_user, with_protected, with_issuer, with_pending, with_last}
 use Rattle.card.specs.Image.{enc_codes, enc_fixed, enc_flags, enc_wallet, enc_key, enc_counters, enc_block, enc_issuer, enc_pending, enc_last}
 use Rattle.card.specs.Image.{enc_front, enc_held, enc_face, encode}
-use Rattle.card.specs.Shape.{Shape_Fixed, Shape_Face, Shape}
+use Rattle.card.specs.Shape.{ShapeFixed, ShapeFace, Shape}
 use Rattle.writing.specs.Holds.{Holds}
 use Rattle.cards.proofs.Shape.{long_codes, long_flags, long_wallet, long_key, long_counters, long_block, long_issuer, long_pending, long_last}
 use Rattle.cards.proofs.Shape.{held_codes_long, held_key_long, held_block_long, held_issuer_long, held_request_long, held_last_long}
@@ -51,7 +51,7 @@ spliced {d} {v} {at = at} a b z w e l k =
 abbrev unpaused : Fixed → List ℕ
 unpaused x = x.cid ++ x.cvc ++ be1 x.curve ++ be4 x.max ++ x.seed
 
-long_unpaused : (x : Fixed) → Shape_Fixed x → length (unpaused x) ≡ pause_at - fixed_at
+long_unpaused : (x : Fixed) → ShapeFixed x → length (unpaused x) ≡ pause_at - fixed_at
 long_unpaused x s = simp length-append (omega arith)
 
 -- THE GROUPS of an image, and how long they are
@@ -143,7 +143,7 @@ turned {rest = rest} n h c' s e l w x =
     record { shape = s; bytes = renewed n h w x l ∙ ap (λ y. y ++ rest) (ap joined (sym e) ∙ sym (in_groups c')) }
 
 refaced :
-    {c : Card} {rest d v d' : List ℕ} {r : ℕ} (n : ℕ) → n < length widths → (f : Face) → Shape_Face f
+    {c : Card} {rest d v d' : List ℕ} {r : ℕ} (n : ℕ) → n < length widths → (f : Face) → ShapeFace f
     → groups (faced f c) ≡ take n (groups c) ++ (v ∷ drop (suc n) (groups c))
     → length v ≡ get_or widths n 0 → Wrote d (total (take n widths)) v d' r → Holds c rest d → Holds (faced f c) rest d'
 refaced {c} n h f s e l w x = turned n h (faced f c) (record { codes = x.shape.codes; face = s }) e l w x

@@ -54,7 +54,7 @@ use Rattle.shelf.specs.Shelf.{taken_of}
 use Rattle.book.specs.Book.{laid_of}
 use Rattle.book.proofs.Answers.{join-outcome, join-list}
 use Rattle.book.proofs.Flat.{calls_flat, calls_shared}
-use Rattle.book.proofs.Laying.{Notes_In, Count_In, Outcome_In, Lay, Laying, calls_lay}
+use Rattle.book.proofs.Laying.{NotesIn, CountIn, OutcomeIn, Lay, Laying, calls_lay}
 use Rattle.book.proofs.Rows.{One, all_val, all_tells, all_typed, all_makes, ans_val, ans_tells, ans_typed, ans_makes, Out, out_val, out_tells, out_typed, out_makes}
 use Rattle.book.specs.contracts.taken as taken
 use Rattle.book.proofs.taken.Symbol as taken-def
@@ -205,9 +205,9 @@ join-spec 𝓤 𝓛 𝓜 𝓡 =
       taken = cited 𝓤 𝓛.H (Taken 𝓛 𝓜.mem 𝓡.run) 𝓜 𝓡 code.env #book·taken taken-def.routine code.calls-book::taken (taken-thm.met 𝓤 𝓛 𝓜 𝓡);
       core = cited 𝓤 𝓛.H (Core 𝓛 𝓜.mem 𝓡.run) 𝓜 𝓡 code.env #union·joined core-def.routine code.calls-union::joined (core-thm.met 𝓤 𝓛 𝓜 𝓡);
       laying = record {
-        notes-in = cited 𝓤 𝓛.H (Notes_In 𝓛 𝓜.mem 𝓡.run) 𝓜 𝓡 code.env #shelf·notes-in notes-in-def.routine code.calls-shelf::notes-in (notes-in-thm.met 𝓤 𝓛 𝓜 𝓡);
-        count-in = cited 𝓤 𝓛.H (Count_In 𝓛 𝓜.mem 𝓡.run) 𝓜 𝓡 code.env #shelf·count-in count-in-def.routine code.calls-shelf::count-in (count-in-thm.met 𝓤 𝓛 𝓜 𝓡);
-        outcome-in = cited 𝓤 𝓛.H (Outcome_In 𝓛 𝓜.mem 𝓡.run) 𝓜 𝓡 code.env #shelf·outcome-in outcome-in-def.routine code.calls-shelf::outcome-in (outcome-in-thm.met 𝓤 𝓛 𝓜 𝓡);
+        notes-in = cited 𝓤 𝓛.H (NotesIn 𝓛 𝓜.mem 𝓡.run) 𝓜 𝓡 code.env #shelf·notes-in notes-in-def.routine code.calls-shelf::notes-in (notes-in-thm.met 𝓤 𝓛 𝓜 𝓡);
+        count-in = cited 𝓤 𝓛.H (CountIn 𝓛 𝓜.mem 𝓡.run) 𝓜 𝓡 code.env #shelf·count-in count-in-def.routine code.calls-shelf::count-in (count-in-thm.met 𝓤 𝓛 𝓜 𝓡);
+        outcome-in = cited 𝓤 𝓛.H (OutcomeIn 𝓛 𝓜.mem 𝓡.run) 𝓜 𝓡 code.env #shelf·outcome-in outcome-in-def.routine code.calls-shelf::outcome-in (outcome-in-thm.met 𝓤 𝓛 𝓜 𝓡);
         lay = cited 𝓤 𝓛.H (Lay 𝓛 𝓜.mem 𝓡.run) 𝓜 𝓡 code.env #book·lay lay-def.routine code.calls-book::lay (lay-thm.met 𝓤 𝓛 𝓜 𝓡);
       };
     }))
