@@ -1,4 +1,6 @@
 // The columns of the manual's rows about the crypto provider's answers: their shape, number 4, and check 13.
+#![tactic(auto)]
+
 ghost use Rattle.std.specs.Prelude.{◌≡◌, ℕ, List, [], ◌∷◌};
 ghost use Rattle.wire.specs.Wire.{verdict};
 ghost use Rattle.sent.specs.Sent.{view_by};

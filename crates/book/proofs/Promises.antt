@@ -9,20 +9,20 @@ use Rattle.book.specs.contracts.book_read as book_read
 use Rattle.book.specs.contracts.book_write as book_write
 use Rattle.book.specs.contracts.book_join as book_join
 
-pub read_one : OneOutcome read.ended (λ M. read.clauses {M = M})
+pub read_one : OneOutcome read.ended (λ M 𝓤. read.clauses {𝓤 = 𝓤})
 read_one M 𝓤 𝓛 m r κs a g z z' ws ws' = plain 𝓤 (λ p q. (p.0 ∙ sym q.0, λ i. (tt, ((p.1 ∙ sym q.1) i, tt))))
 
-pub write_one : OneOutcome write.ended (λ M. write.clauses {M = M})
+pub write_one : OneOutcome write.ended (λ M 𝓤. write.clauses {𝓤 = 𝓤})
 write_one M 𝓤 𝓛 m r κs a g z z' ws ws' = plain 𝓤 (λ p q. (p.0 ∙ sym q.0, λ i. (tt, ((p.1 ∙ sym q.1) i, tt))))
 
-pub join_one : OneOutcome join.ended (λ M. join.clauses {M = M})
+pub join_one : OneOutcome join.ended (λ M 𝓤. join.clauses {𝓤 = 𝓤})
 join_one M 𝓤 𝓛 m r κs a g z z' ws ws' = plain 𝓤 (λ p q. (p.0 ∙ sym q.0, λ i. (tt, (tt, ((p.1 ∙ sym q.1) i, tt)))))
 
-pub book_read_one : OneOutcome book_read.ended (λ M. book_read.clauses {M = M})
+pub book_read_one : OneOutcome book_read.ended (λ M 𝓤. book_read.clauses {𝓤 = 𝓤})
 book_read_one M 𝓤 𝓛 m r κs a g z z' ws ws' = plain 𝓤 (λ p q. (p.0 ∙ sym q.0, λ i. (tt, ((p.1 ∙ sym q.1) i, tt))))
 
-pub book_write_one : OneOutcome book_write.ended (λ M. book_write.clauses {M = M})
+pub book_write_one : OneOutcome book_write.ended (λ M 𝓤. book_write.clauses {𝓤 = 𝓤})
 book_write_one M 𝓤 𝓛 m r κs a g z z' ws ws' = plain 𝓤 (λ p q. (p.0 ∙ sym q.0, λ i. (tt, ((p.1 ∙ sym q.1) i, tt))))
 
-pub book_join_one : OneOutcome book_join.ended (λ M. book_join.clauses {M = M})
+pub book_join_one : OneOutcome book_join.ended (λ M 𝓤. book_join.clauses {𝓤 = 𝓤})
 book_join_one M 𝓤 𝓛 m r κs a g z z' ws ws' = plain 𝓤 (λ p q. (p.0 ∙ sym q.0, λ i. (tt, (tt, ((p.1 ∙ sym q.1) i, tt)))))

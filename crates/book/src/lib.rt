@@ -1,5 +1,7 @@
 // The handover book, Ask 8, as a lent list of notes. Nothing is asked of the caller: a list that is no book is refused. On any answer
 // but `Done` all that is lent is as it was.
+#![tactic(auto)]
+
 ghost use Rattle.std.specs.Prelude.{◌≡◌, length};
 ghost use Rattle.shelf.specs.Shelf.{taken_of};
 ghost use Rattle.shelf.specs.Outcome.{numbers_of};

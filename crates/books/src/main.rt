@@ -1,6 +1,8 @@
 // The handover book, run on the cases of tests/books.py: each line of standard input is a word and its values, parted by tabs, texts in
 // capital hex. `handed` and two texts: what handover prints for them, in hex. `read`, the places of a list and a text; `join`, the places
 // and two texts that are books: the outcome in numbers and, where it is done, the text of the notes.
+#![tactic(auto)]
+
 use libc::{STDIN_FILENO, STDOUT_FILENO};
 use shelf::Answer;
 use text::{Number, lines};

@@ -1,4 +1,6 @@
 // A book as text, Ask 8, read to an array of notes and written from one. All functions are total.
+#![tactic(auto)]
+
 ghost use Rattle.std.specs.Prelude.{◌≡◌, ◌≤◌, length, take, replicate};
 ghost use Rattle.wire.specs.Wire.{Wrotes};
 ghost use Rattle.notes.specs.Notes.{blank};

@@ -1,5 +1,7 @@
 // What the card is made of, 01: its values in small groups, all but the codes as its face; the fresh card; and the wallet's
 // counters and status as one small value, which create, sign and purge take and hand back.
+#![tactic(auto)]
+
 mod defaults;
 pub mod layout;
 mod waiting;

@@ -1,4 +1,6 @@
 // What becomes of the card: the image of the card after, made from that of the card before.
+#![tactic(auto)]
+
 ghost use Rattle.std.specs.Prelude.{◌≡◌};
 ghost use Rattle.wire.specs.Wire.{Wrote};
 ghost use Rattle.sent.specs.Sent.{view_by};

@@ -1,4 +1,6 @@
 // The columns of the manual's rows that the checks 7 to 12 read: one function a column, one arm a command.
+#![tactic(auto)]
+
 ghost use Rattle.std.specs.Prelude.{◌≡◌, true, false, not, eqb, ltb};
 ghost use Rattle.sent.specs.Sent.{view_by};
 ghost use Rattle.card.specs.Layout.{top16};

@@ -1,1 +1,2 @@
 // No code: theorems that tie the code of the C face to the demands.
+#![tactic(auto)]

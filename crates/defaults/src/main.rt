@@ -1,5 +1,7 @@
 // The default codes, printed: PIN1, then PIN2, each as capital hex and a line feed. What must come is made by tests/default-pins.py with
 // another library's SHA-256. Proved safe and ending; that the meaning has the same bytes is proved where they are used.
+#![tactic(auto)]
+
 use card::Codes;
 use libc::STDOUT_FILENO;
 use text::lines;

@@ -4,8 +4,8 @@ use Rattle.wire.proofs.Unique.{one_equal}
 use Rattle.delay.specs.contracts.pace as pace
 use Rattle.delay.specs.contracts.refused as refused
 
-pub pace_one : OneOutcome pace.ended (λ M. pace.clauses {M = M})
+pub pace_one : OneOutcome pace.ended (λ M 𝓤. pace.clauses {𝓤 = 𝓤})
 pace_one M 𝓤 𝓛 m r κs a g z z' ws ws' = plain 𝓤 (λ p q. one_equal p q)
 
-pub refused_one : OneOutcome refused.ended (λ M. refused.clauses {M = M})
+pub refused_one : OneOutcome refused.ended (λ M 𝓤. refused.clauses {𝓤 = 𝓤})
 refused_one M 𝓤 𝓛 m r κs a g z z' ws ws' = plain 𝓤 (λ p q. one_equal p q)

@@ -1,4 +1,6 @@
 // The security delay, 02 Ask 7: the pace of a request, by the verdict of checks 1 to 12, by its codes and by what the card holds.
+#![tactic(auto)]
+
 ghost use Rattle.std.specs.Prelude.{◌≡◌, ◌-◌, not, ◌&&◌, if◌then◌else◌};
 ghost use Rattle.fields.specs.Fields.{holds};
 ghost use Rattle.sent.specs.Sent.{view_by};

@@ -1,1 +1,2 @@
 // What holds of every command's row: one record of facts a row. No code.
+#![tactic(auto)]

@@ -2,6 +2,8 @@
 // input is a payload in hex. After `*` the payload is also cut at every byte; after `+` stand a value's length and a buffer's
 // size, four bytes each, for the writer. Each function here is proved safe and ending; the promises are those of `fields` and
 // `sent`.
+#![tactic(auto)]
+
 ghost use Rattle.std.specs.Prelude.{◌+◌, ◌≤◌, ◌<◌, length};
 
 use fields::{Step, Times};

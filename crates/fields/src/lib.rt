@@ -1,5 +1,7 @@
 // Fields, 01 "Requests and fields": tag, length, value. What stands at a place of a payload, the first field with a tag and
 // how often the tag stands, the writer; all total.
+#![tactic(auto)]
+
 ghost use Rattle.std.specs.Prelude.{◌≡◌, ◌≤◌, ◌<◌, length};
 ghost use Rattle.wire.specs.Wire.{Wrote, be1, be2, be4};
 ghost use Rattle.fields.specs.Fields.{step_at, field_at, rest_from, first_in, copies, times_of, met, head_of, tlv};

@@ -1,5 +1,7 @@
 // What firstread prints, 01 "The personalisation sheet": READ_CARD's response for the fresh card of a sheet, or the number of the
 // sheet's first bad line.
+#![tactic(auto)]
+
 ghost use Rattle.std.specs.Prelude.{◌≡◌, [], ◌∷◌, length};
 ghost use Rattle.wire.specs.Wire.{Wrotes};
 ghost use Rattle.text.specs.Text.{hex_of};

@@ -1,5 +1,7 @@
 // firstread, 01 "The personalisation sheet": a sheet on standard input; on standard output READ_CARD's response under the sheet's
 // PIN1 and a draw of zeros, or the number of the bad line. What is printed is the promise of `firstanswer`; this reads and writes.
+#![tactic(auto)]
+
 use libc::{STDIN_FILENO, STDOUT_FILENO};
 
 fn main() {

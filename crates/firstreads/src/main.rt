@@ -1,5 +1,7 @@
 // firstread, run on the cases of tests/firstreads.py: each line of standard input is an input of firstread in capital hex. For each it
 // prints what firstread prints.
+#![tactic(auto)]
+
 use libc::{STDIN_FILENO, STDOUT_FILENO};
 use text::lines;
 

@@ -1,5 +1,7 @@
 // The checks 1 to 12, in order: the first that fails gives its number and its status word. Checks 1 to 3 come before the payload is
 // walked, so that a request without one costs no walk.
+#![tactic(auto)]
+
 ghost use Rattle.std.specs.Prelude.{◌≡◌, ◌&&◌, ◌||◌, get_or, eqb};
 ghost use Rattle.wire.specs.Wire.{verdict};
 ghost use Rattle.fields.specs.Fields.{holds};

@@ -3,5 +3,5 @@ use Rattle.wire.specs.OneOutcome.{OneOutcome, plain}
 use Rattle.wire.proofs.Unique.{one_page}
 use Rattle.handed.specs.contracts.handed as handed
 
-pub handed_one : OneOutcome handed.ended (λ M. handed.clauses {M = M})
+pub handed_one : OneOutcome handed.ended (λ M 𝓤. handed.clauses {𝓤 = 𝓤})
 handed_one M 𝓤 𝓛 m r κs a g z z' ws ws' = plain 𝓤 (λ p q. let e = one_page p q in (e.1, λ i. (tt, (tt, (e.0 i, tt)))))

@@ -1,4 +1,6 @@
 // What handover prints for two texts, Ask 8: the joined book, or one line that no book begins with.
+#![tactic(auto)]
+
 ghost use Rattle.std.specs.Prelude.{◌≡◌, [], ◌∷◌, take};
 ghost use Rattle.wire.specs.Wire.{Wrotes};
 ghost use Rattle.text.specs.Text.{ascii};

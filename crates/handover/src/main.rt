@@ -1,5 +1,7 @@
 // handover FIRST SECOND, Ask 8: on standard output the two books as one, or one line that no book begins with. What is printed is the
 // promise of `handed`; this opens, reads and writes. It writes no file.
+#![tactic(auto)]
+
 use handed::BOOK_ROOM;
 use libc::STDOUT_FILENO;
 

@@ -26,68 +26,68 @@ use Rattle.image.specs.contracts.note_signature as note_signature
 use Rattle.image.specs.contracts.held as held
 use Rattle.image.specs.contracts.last as last
 
-pub curve_one : OneOutcome curve.ended (λ M. curve.clauses {M = M})
+pub curve_one : OneOutcome curve.ended (λ M 𝓤. curve.clauses {𝓤 = 𝓤})
 curve_one M 𝓤 𝓛 m r κs a g z z' ws ws' = plain 𝓤 (λ p q. one_equal p q)
 
-pub max_one : OneOutcome max.ended (λ M. max.clauses {M = M})
+pub max_one : OneOutcome max.ended (λ M 𝓤. max.clauses {𝓤 = 𝓤})
 max_one M 𝓤 𝓛 m r κs a g z z' ws ws' = plain 𝓤 (λ p q. one_equal p q)
 
-pub pause_one : OneOutcome pause.ended (λ M. pause.clauses {M = M})
+pub pause_one : OneOutcome pause.ended (λ M 𝓤. pause.clauses {𝓤 = 𝓤})
 pause_one M 𝓤 𝓛 m r κs a g z z' ws ws' = plain 𝓤 (λ p q. one_equal p q)
 
-pub flags_one : OneOutcome flags.ended (λ M. flags.clauses {M = M})
+pub flags_one : OneOutcome flags.ended (λ M 𝓤. flags.clauses {𝓤 = 𝓤})
 flags_one M 𝓤 𝓛 m r κs a g z z' ws ws' = plain 𝓤 (λ p q. one_equal p q)
 
-pub wallet_one : OneOutcome wallet.ended (λ M. wallet.clauses {M = M})
+pub wallet_one : OneOutcome wallet.ended (λ M 𝓤. wallet.clauses {𝓤 = 𝓤})
 wallet_one M 𝓤 𝓛 m r κs a g z z' ws ws' = plain 𝓤 (λ p q. one_equal p q)
 
-pub counters_one : OneOutcome counters.ended (λ M. counters.clauses {M = M})
+pub counters_one : OneOutcome counters.ended (λ M 𝓤. counters.clauses {𝓤 = 𝓤})
 counters_one M 𝓤 𝓛 m r κs a g z z' ws ws' = plain 𝓤 (λ p q. one_equal p q)
 
-pub note_counter_one : OneOutcome note_counter.ended (λ M. note_counter.clauses {M = M})
+pub note_counter_one : OneOutcome note_counter.ended (λ M 𝓤. note_counter.clauses {𝓤 = 𝓤})
 note_counter_one M 𝓤 𝓛 m r κs a g z z' ws ws' = plain 𝓤 (λ p q. one_equal p q)
 
-pub wait_one : OneOutcome wait.ended (λ M. wait.clauses {M = M})
+pub wait_one : OneOutcome wait.ended (λ M 𝓤. wait.clauses {𝓤 = 𝓤})
 wait_one M 𝓤 𝓛 m r κs a g z z' ws ws' = plain 𝓤 (λ p q. one_equal p q)
 
-pub last_count_one : OneOutcome last_count.ended (λ M. last_count.clauses {M = M})
+pub last_count_one : OneOutcome last_count.ended (λ M 𝓤. last_count.clauses {𝓤 = 𝓤})
 last_count_one M 𝓤 𝓛 m r κs a g z z' ws ws' = plain 𝓤 (λ p q. one_equal p q)
 
-pub is_card_one : OneOutcome is_card_lem.ended (λ M. is_card_lem.clauses {M = M})
+pub is_card_one : OneOutcome is_card_lem.ended (λ M 𝓤. is_card_lem.clauses {𝓤 = 𝓤})
 is_card_one M 𝓤 𝓛 m r κs a g z z' ws ws' = plain 𝓤 (λ p q. one_equal p q)
 
-pub pin1_one : OneSeen pin1.ended (λ M. pin1.clauses {M = M}) (List ℕ) (λ κs z. z.now)
+pub pin1_one : OneSeen pin1.ended (λ M 𝓤. pin1.clauses {𝓤 = 𝓤}) (List ℕ) (λ κs z. z.now)
 pin1_one M 𝓤 𝓛 m r κs a g z z' ws ws' = plain 𝓤 (λ p q. one_equal p q)
 
-pub pin2_one : OneSeen pin2.ended (λ M. pin2.clauses {M = M}) (List ℕ) (λ κs z. z.now)
+pub pin2_one : OneSeen pin2.ended (λ M 𝓤. pin2.clauses {𝓤 = 𝓤}) (List ℕ) (λ κs z. z.now)
 pin2_one M 𝓤 𝓛 m r κs a g z z' ws ws' = plain 𝓤 (λ p q. one_equal p q)
 
-pub cid_one : OneSeen cid.ended (λ M. cid.clauses {M = M}) (List ℕ) (λ κs z. z.now)
+pub cid_one : OneSeen cid.ended (λ M 𝓤. cid.clauses {𝓤 = 𝓤}) (List ℕ) (λ κs z. z.now)
 cid_one M 𝓤 𝓛 m r κs a g z z' ws ws' = plain 𝓤 (λ p q. one_equal p q)
 
-pub cvc_one : OneSeen cvc.ended (λ M. cvc.clauses {M = M}) (List ℕ) (λ κs z. z.now)
+pub cvc_one : OneSeen cvc.ended (λ M 𝓤. cvc.clauses {𝓤 = 𝓤}) (List ℕ) (λ κs z. z.now)
 cvc_one M 𝓤 𝓛 m r κs a g z z' ws ws' = plain 𝓤 (λ p q. one_equal p q)
 
-pub seed_one : OneSeen seed.ended (λ M. seed.clauses {M = M}) (List ℕ) (λ κs z. z.now)
+pub seed_one : OneSeen seed.ended (λ M 𝓤. seed.clauses {𝓤 = 𝓤}) (List ℕ) (λ κs z. z.now)
 seed_one M 𝓤 𝓛 m r κs a g z z' ws ws' = plain 𝓤 (λ p q. one_equal p q)
 
-pub key_one : OneSeen key.ended (λ M. key.clauses {M = M}) (List ℕ) (λ κs z. z.now)
+pub key_one : OneSeen key.ended (λ M 𝓤. key.clauses {𝓤 = 𝓤}) (List ℕ) (λ κs z. z.now)
 key_one M 𝓤 𝓛 m r κs a g z z' ws ws' = plain 𝓤 (λ p q. one_equal p q)
 
-pub user_one : OneSeen user.ended (λ M. user.clauses {M = M}) (List ℕ) (λ κs z. z.now)
+pub user_one : OneSeen user.ended (λ M 𝓤. user.clauses {𝓤 = 𝓤}) (List ℕ) (λ κs z. z.now)
 user_one M 𝓤 𝓛 m r κs a g z z' ws ws' = plain 𝓤 (λ p q. one_equal p q)
 
-pub protected_one : OneSeen protected.ended (λ M. protected.clauses {M = M}) (List ℕ) (λ κs z. z.now)
+pub protected_one : OneSeen protected.ended (λ M 𝓤. protected.clauses {𝓤 = 𝓤}) (List ℕ) (λ κs z. z.now)
 protected_one M 𝓤 𝓛 m r κs a g z z' ws ws' = plain 𝓤 (λ p q. one_equal p q)
 
-pub note_one : OneSeen note.ended (λ M. note.clauses {M = M}) (List ℕ) (λ κs z. z.now)
+pub note_one : OneSeen note.ended (λ M 𝓤. note.clauses {𝓤 = 𝓤}) (List ℕ) (λ κs z. z.now)
 note_one M 𝓤 𝓛 m r κs a g z z' ws ws' = plain 𝓤 (λ p q. one_equal p q)
 
-pub note_signature_one : OneSeen note_signature.ended (λ M. note_signature.clauses {M = M}) (List ℕ) (λ κs z. z.now)
+pub note_signature_one : OneSeen note_signature.ended (λ M 𝓤. note_signature.clauses {𝓤 = 𝓤}) (List ℕ) (λ κs z. z.now)
 note_signature_one M 𝓤 𝓛 m r κs a g z z' ws ws' = plain 𝓤 (λ p q. one_equal p q)
 
-pub held_one : OneSeen held.ended (λ M. held.clauses {M = M}) (List ℕ) (λ κs z. z.now)
+pub held_one : OneSeen held.ended (λ M 𝓤. held.clauses {𝓤 = 𝓤}) (List ℕ) (λ κs z. z.now)
 held_one M 𝓤 𝓛 m r κs a g z z' ws ws' = plain 𝓤 (λ p q. one_equal p q)
 
-pub last_one : OneSeen last.ended (λ M. last.clauses {M = M}) (List ℕ) (λ κs z. z.now)
+pub last_one : OneSeen last.ended (λ M 𝓤. last.clauses {𝓤 = 𝓤}) (List ℕ) (λ κs z. z.now)
 last_one M 𝓤 𝓛 m r κs a g z z' ws ws' = plain 𝓤 (λ p q. one_equal p q)

@@ -1,5 +1,7 @@
 // The image of a card, docs/IMAGE.md: its values, read where they stand, and whether it is a card. Total: what bytes spell is read
 // from any bytes, and a value past their end is 0 or nothing.
+#![tactic(auto)]
+
 mod valid;
 
 ghost use Rattle.std.specs.Prelude.{◌≡◌};

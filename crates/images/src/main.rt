@@ -1,6 +1,8 @@
 // Which values each byte of an image may take. tests/images.py made the images, and what must be printed, from 01 "What the card
 // is made of". A line of standard input is an image in hex, 131,072 bytes in all at most. At each place all 256 values are tried,
 // all else as given. Each function here is proved safe and ending; the promises are those of `image`.
+#![tactic(auto)]
+
 ghost use Rattle.std.specs.Prelude.{◌+◌, ◌≤◌, ◌<◌, length};
 ghost use Rattle.card.specs.Layout.{image_size};
 

@@ -1,4 +1,6 @@
 // The manual's words as types: the commands, what each needs, the verdict of the checks, the result of a call. The meaning is in specs/.
+#![tactic(auto)]
+
 pub mod tag;
 
 #[derive(Drop)]

@@ -1,4 +1,6 @@
 // The line of a note, Ask 8, read and written. All functions are total: a write without room changes nothing.
+#![tactic(auto)]
+
 ghost use Rattle.std.specs.Prelude.{◌≡◌, true, [], ◌∷◌, ◌≤◌, length};
 ghost use Rattle.wire.specs.Wire.{part, pad, Wrotes};
 ghost use Rattle.noteline.specs.NoteLine.{tab, feed, line_parts, line_of, held, valued, fields_of, note_at};

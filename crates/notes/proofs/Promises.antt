@@ -7,17 +7,17 @@ use Rattle.notes.specs.contracts.alike as alike
 use Rattle.notes.specs.contracts.is_good as is_good
 use Rattle.notes.specs.contracts.follows as follows
 
-pub nothing_one : OneOutcome nothing.ended (λ M. nothing.clauses {M = M})
+pub nothing_one : OneOutcome nothing.ended (λ M 𝓤. nothing.clauses {𝓤 = 𝓤})
 nothing_one M 𝓤 𝓛 m r κs a g z z' ws ws' = plain 𝓤 (λ p q. one_equal p q)
 
-pub order_of_one : OneOutcome order_of.ended (λ M. order_of.clauses {M = M})
+pub order_of_one : OneOutcome order_of.ended (λ M 𝓤. order_of.clauses {𝓤 = 𝓤})
 order_of_one M 𝓤 𝓛 m r κs a g z z' ws ws' = plain 𝓤 (λ p q. one_equal p q)
 
-pub alike_one : OneOutcome alike.ended (λ M. alike.clauses {M = M})
+pub alike_one : OneOutcome alike.ended (λ M 𝓤. alike.clauses {𝓤 = 𝓤})
 alike_one M 𝓤 𝓛 m r κs a g z z' ws ws' = plain 𝓤 (λ p q. one_equal p q)
 
-pub is_good_one : OneOutcome is_good.ended (λ M. is_good.clauses {M = M})
+pub is_good_one : OneOutcome is_good.ended (λ M 𝓤. is_good.clauses {𝓤 = 𝓤})
 is_good_one M 𝓤 𝓛 m r κs a g z z' ws ws' = plain 𝓤 (λ p q. one_equal p q)
 
-pub follows_one : OneOutcome follows.ended (λ M. follows.clauses {M = M})
+pub follows_one : OneOutcome follows.ended (λ M 𝓤. follows.clauses {𝓤 = 𝓤})
 follows_one M 𝓤 𝓛 m r κs a g z z' ws ws' = plain 𝓤 (λ p q. one_equal p q)

@@ -1,5 +1,7 @@
 // A note of the handover book, Ask 8, by value: whether it is good, which of two comes first, whether two are the same. All functions
 // are total.
+#![tactic(auto)]
+
 ghost use Rattle.std.specs.Prelude.{◌≡◌};
 ghost use Rattle.notes.specs.Notes.{blank, order_of, is_before, same_text, alike_of, clean_of, text_good, good_of, follows};
 

@@ -1,5 +1,7 @@
 // Personalisation, 01: the fresh card of a good sheet, and its image. The values are read again by their line's number, so that no
 // state is carried.
+#![tactic(auto)]
+
 ghost use Rattle.std.specs.Prelude.{◌≡◌};
 ghost use Rattle.wire.specs.Wire.{pad};
 ghost use Rattle.text.specs.Text.{unhex};

@@ -1,5 +1,7 @@
 // play, Ask 4: a recording on standard input; on standard output a line for each tap, then the sums, or the number of the line that
 // ended the play. Each function here is proved safe and ending; the promises are those of `player` and `recording`.
+#![tactic(auto)]
+
 use card::layout::IMAGE_SIZE;
 use libc::{STDIN_FILENO, STDOUT_FILENO};
 use player::{Fed, Player};

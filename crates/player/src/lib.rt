@@ -1,5 +1,7 @@
 // A recording played byte by byte, whatever pieces it comes in: bytes are held until they are a whole sheet or a whole line. Room is
 // needed for one byte more than the longest line, for an image and for a line that is printed; a call without it does nothing.
+#![tactic(auto)]
+
 ghost use Rattle.std.specs.Prelude.{◌≡◌, [], ◌∷◌, true, length};
 ghost use Rattle.wire.specs.Wire.{fit, placed};
 ghost use Rattle.recording.specs.Step.{room_for, wrote};

@@ -1,5 +1,7 @@
 // Recordings, played. tests/plays.py made the lines of standard input, and what must be printed, by a second card; tests/README.md
 // tells what a line means. Each function here is proved safe and ending; the promises are those of `player` and `recording`.
+#![tactic(auto)]
+
 use card::layout::IMAGE_SIZE;
 use libc::{STDIN_FILENO, STDOUT_FILENO};
 use player::{Fed, Player};

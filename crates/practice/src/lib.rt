@@ -1,4 +1,6 @@
 // Ask and settle, 01 "Two calls", and the power-off of 02 Ask 7: the practice card, and its C face.
+#![tactic(auto)]
+
 mod ending;
 
 ghost use Rattle.std.specs.Prelude.{◌≡◌, ◌≤◌, ◌++◌, length, drop, eqb, leb};

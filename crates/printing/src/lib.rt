@@ -1,5 +1,7 @@
 // The lines that a play prints, Ask 4. All functions are total: a write without room changes nothing. Each promises too how long its
 // line can be, so that a caller knows what room there must be.
+#![tactic(auto)]
+
 ghost use Rattle.std.specs.Prelude.{◌≡◌, ◌+◌, ◌*◌, ◌≤◌, [], ◌∷◌, length};
 ghost use Rattle.wire.specs.Wire.{alike, Wrote, Wrotes};
 ghost use Rattle.text.specs.Text.{decimal_of};

@@ -1,4 +1,6 @@
 // The column of the manual's rows with the questions for the crypto provider.
+#![tactic(auto)]
+
 ghost use Rattle.std.specs.Prelude.{◌≡◌, ℕ, ◌+◌, ◌/◌, List, [], ◌∷◌, length};
 ghost use Rattle.wire.specs.Wire.{Wrote, Wrotes};
 ghost use Rattle.fields.specs.Fields.{View};

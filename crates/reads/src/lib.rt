@@ -1,5 +1,7 @@
 // The second rule of check 5: no tag of the command's entry stands twice. One list of tags a command, its entry in 01, whatever this card
 // needs of it.
+#![tactic(auto)]
+
 ghost use Rattle.std.specs.Prelude.{◌≡◌};
 ghost use Rattle.fields.specs.Fields.{twice};
 ghost use Rattle.sent.specs.Sent.{view_by};

@@ -1,5 +1,7 @@
 // A recording, Ask 4: a personalisation sheet, then a line for each tap. It is played a line at a time; what lasts from line to line
 // is a small struct and the card's image. A call that is lent an image of another length, or no room for a line, does nothing.
+#![tactic(auto)]
+
 ghost use Rattle.std.specs.Prelude.{◌≡◌, ◌≤◌, ◌<◌, false, not, ◌&&◌, length, eqb};
 ghost use Rattle.wire.specs.Wire.{alike};
 ghost use Rattle.card.specs.Layout.{image_size, image_room};

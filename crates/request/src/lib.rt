@@ -1,4 +1,6 @@
 // What a request says: where its payload stands, its command, and the few values that several columns read.
+#![tactic(auto)]
+
 ghost use Rattle.std.specs.Prelude.{◌≡◌, get_or};
 ghost use Rattle.sent.specs.Sent.{view_by};
 ghost use Rattle.manual.specs.Request.{lc_of, ins_of, payload, body_in};

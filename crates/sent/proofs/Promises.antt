@@ -12,23 +12,23 @@ use Rattle.sent.specs.contracts.none_twice as none_twice
 use Rattle.sent.specs.contracts.holds as holds
 use Rattle.sent.specs.contracts.value as value
 
-pub fill_one : OneOutcome fill.ended (λ M. fill.clauses {M = M})
+pub fill_one : OneOutcome fill.ended (λ M 𝓤. fill.clauses {𝓤 = 𝓤})
 fill_one M 𝓤 𝓛 m r κs a g z z' ws ws' = plain 𝓤 (λ p q. let e = one_filling p q in (e.0, λ i. (tt, (e.1 i, tt))))
 
-pub none_one : OneOutcome none.ended (λ M. none.clauses {M = M})
+pub none_one : OneOutcome none.ended (λ M 𝓤. none.clauses {𝓤 = 𝓤})
 none_one M 𝓤 𝓛 m r κs a g z z' ws ws' = plain 𝓤 (λ p q. one_equal p q)
 
-pub has_one : OneOutcome has.ended (λ M. has.clauses {M = M})
+pub has_one : OneOutcome has.ended (λ M 𝓤. has.clauses {𝓤 = 𝓤})
 has_one M 𝓤 𝓛 m r κs a g z z' ws ws' = plain 𝓤 (λ p q. one_equal p q)
 
-pub holds_one : OneOutcome holds.ended (λ M. holds.clauses {M = M})
+pub holds_one : OneOutcome holds.ended (λ M 𝓤. holds.clauses {𝓤 = 𝓤})
 holds_one M 𝓤 𝓛 m r κs a g z z' ws ws' = plain 𝓤 (λ p q. one_equal p q)
 
-pub value_one : OneSeen value.ended (λ M. value.clauses {M = M}) (List ℕ) (λ κs z. z.now)
+pub value_one : OneSeen value.ended (λ M 𝓤. value.clauses {𝓤 = 𝓤}) (List ℕ) (λ κs z. z.now)
 value_one M 𝓤 𝓛 m r κs a g z z' ws ws' = plain 𝓤 (λ p q. one_equal p q)
 
-pub stands_one : OneOutcome stands.ended (λ M. stands.clauses {M = M})
+pub stands_one : OneOutcome stands.ended (λ M 𝓤. stands.clauses {𝓤 = 𝓤})
 stands_one M 𝓤 𝓛 m r κs a g z z' ws ws' = plain 𝓤 (λ p q. one_equal p q)
 
-pub none_twice_one : OneOutcome none_twice.ended (λ M. none_twice.clauses {M = M})
+pub none_twice_one : OneOutcome none_twice.ended (λ M 𝓤. none_twice.clauses {𝓤 = 𝓤})
 none_twice_one M 𝓤 𝓛 m r κs a g z z' ws ws' = plain 𝓤 (λ p q. one_equal p q)

@@ -1,5 +1,7 @@
 // The fields of a payload, found by one walk: for each tag that has a place where its first value stands, and whether it stands twice.
 // Nothing walks the payload again.
+#![tactic(auto)]
+
 ghost use Rattle.std.specs.Prelude.{◌≡◌, replicate, ◌<◌};
 ghost use Rattle.fields.specs.Fields.{rest_from, first_in, value_of, has, val, holds};
 ghost use Rattle.sent.specs.Sent.{places, words, marked, with_mark, unmarked, noted, Filled, spot, lookup, view_by};

@@ -1,5 +1,7 @@
 // The personalisation sheet, 01: lines, each name, tab, value, line feed; which of them is the first bad one, and where in a file a
 // sheet ends.
+#![tactic(auto)]
+
 ghost use Rattle.std.specs.Prelude.{◌≡◌, ◌&&◌, cond, ltb, suc};
 ghost use Rattle.wire.specs.Wire.{alike};
 ghost use Rattle.text.specs.Lines.{start_of};

@@ -1,5 +1,7 @@
 // The sheet reader, run on the cases of tests/sheets.py: each line of standard input is the size of an image buffer, a tab and a
 // sheet in capital hex. For each it prints the answer, how many bytes of the buffer changed beyond the image, and the image.
+#![tactic(auto)]
+
 use card::layout;
 use libc::{STDIN_FILENO, STDOUT_FILENO};
 use text::{Number, lines};

@@ -1,4 +1,6 @@
 // At most 256 notes by value, whether they are a book, and the outcome of what is done with books. All functions are total.
+#![tactic(auto)]
+
 ghost use Rattle.std.specs.Prelude.{◌≡◌, ◌≤◌, get_or, set, replicate, take};
 ghost use Rattle.notes.specs.Notes.{blank};
 ghost use Rattle.shelf.specs.Shelf.{most, least, first_bad, bad_of};

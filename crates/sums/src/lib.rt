@@ -1,4 +1,6 @@
 // What a play sums up, Ask 4: from requests and responses alone.
+#![tactic(auto)]
+
 ghost use Rattle.std.specs.Prelude.{◌≡◌};
 ghost use Rattle.card.specs.Values.{u32};
 ghost use Rattle.sent.specs.Sent.{view_by};

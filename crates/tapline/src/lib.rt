@@ -1,4 +1,6 @@
 // The line of a tap in a recording, Ask 4: its four fields, parted by tabs, and whether they are what they must be.
+#![tactic(auto)]
+
 ghost use Rattle.std.specs.Prelude.{◌≡◌};
 ghost use Rattle.tapline.specs.Line.{request_in, draw_in, answers_in, expected_in, is_bytes, is_some, is_draw, is_expected, is_tap, is_tap_line};
 

@@ -1,6 +1,8 @@
 // Taps of a card, run. tests/taps.py made the lines of standard input, and what must be printed, by a second card;
 // tests/README.md tells what a line means. Each function here is proved safe and ending; the promises are those of `practice`.
 // A line that begins with no letter of the list is printed as it is; of a lent buffer there are 8,192 bytes at most.
+#![tactic(auto)]
+
 mod print;
 mod state;
 

@@ -1,4 +1,6 @@
 // The response: CID, the column of the manual's rows with the fields that follow it, of the face after, and the status word.
+#![tactic(auto)]
+
 ghost use Rattle.std.specs.Prelude.{◌≡◌, ℕ, ◌+◌, ◌≤◌, cond, List};
 ghost use Rattle.wire.specs.Wire.{Wrote, Wrotes, part};
 ghost use Rattle.fields.specs.Fields.{View, tlv, each};

@@ -1,4 +1,6 @@
 // Numbers as text: capital hex and decimal, read and written. All functions are total: a write without room changes nothing.
+#![tactic(auto)]
+
 ghost use Rattle.std.specs.Prelude.{◌≡◌, ◌+◌, ◌-◌, ◌*◌, ◌/◌, ◌%◌, ◌≤◌, ◌<◌, length};
 ghost use Rattle.wire.specs.Wire.{put, Wrote};
 ghost use Rattle.text.specs.Text.{hex_value, is_hex, pair_value, unhex, hex_digit, hex_of};

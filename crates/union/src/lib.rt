@@ -1,4 +1,6 @@
 // Two books joined, Ask 8, as arrays of notes by value: side by side, the lowest clash, the union, the outcome.
+#![tactic(auto)]
+
 ghost use Rattle.std.specs.Prelude.{◌≡◌, ◌≤◌, take};
 ghost use Rattle.shelf.specs.Shelf.{most, shelf_of};
 ghost use Rattle.union.specs.Union.{aside, merged, lowest, pick_of, fitting_of, matched_of, decided, join_answer};

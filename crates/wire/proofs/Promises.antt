@@ -32,86 +32,86 @@ use Rattle.wire.specs.contracts.zero_from as zero_from
 use Rattle.wire.specs.contracts.part as part
 use Rattle.wire.specs.contracts.rest as rest
 
-pub give3_one : OneOutcome give3.ended (λ M. give3.clauses {M = M})
+pub give3_one : OneOutcome give3.ended (λ M 𝓤. give3.clauses {𝓤 = 𝓤})
 give3_one M 𝓤 𝓛 m r κs a g z z' ws ws' = plain 𝓤 (λ p q. let e = one_write p.0 q.0 in (e.1, λ i. (e.0 i, (tt, (tt, tt)))))
 
-pub give8_one : OneOutcome give8.ended (λ M. give8.clauses {M = M})
+pub give8_one : OneOutcome give8.ended (λ M 𝓤. give8.clauses {𝓤 = 𝓤})
 give8_one M 𝓤 𝓛 m r κs a g z z' ws ws' = plain 𝓤 (λ p q. let e = one_write p.0 q.0 in (e.1, λ i. (e.0 i, (tt, (tt, tt)))))
 
-pub give16_one : OneOutcome give16.ended (λ M. give16.clauses {M = M})
+pub give16_one : OneOutcome give16.ended (λ M 𝓤. give16.clauses {𝓤 = 𝓤})
 give16_one M 𝓤 𝓛 m r κs a g z z' ws ws' = plain 𝓤 (λ p q. let e = one_write p.0 q.0 in (e.1, λ i. (e.0 i, (tt, (tt, tt)))))
 
-pub give32_one : OneOutcome give32.ended (λ M. give32.clauses {M = M})
+pub give32_one : OneOutcome give32.ended (λ M 𝓤. give32.clauses {𝓤 = 𝓤})
 give32_one M 𝓤 𝓛 m r κs a g z z' ws ws' = plain 𝓤 (λ p q. let e = one_write p.0 q.0 in (e.1, λ i. (e.0 i, (tt, (tt, tt)))))
 
-pub give64_one : OneOutcome give64.ended (λ M. give64.clauses {M = M})
+pub give64_one : OneOutcome give64.ended (λ M 𝓤. give64.clauses {𝓤 = 𝓤})
 give64_one M 𝓤 𝓛 m r κs a g z z' ws ws' = plain 𝓤 (λ p q. let e = one_write p.0 q.0 in (e.1, λ i. (e.0 i, (tt, (tt, tt)))))
 
-pub give65_one : OneOutcome give65.ended (λ M. give65.clauses {M = M})
+pub give65_one : OneOutcome give65.ended (λ M 𝓤. give65.clauses {𝓤 = 𝓤})
 give65_one M 𝓤 𝓛 m r κs a g z z' ws ws' = plain 𝓤 (λ p q. let e = one_write p.0 q.0 in (e.1, λ i. (e.0 i, (tt, (tt, tt)))))
 
-pub give512_one : OneOutcome give512.ended (λ M. give512.clauses {M = M})
+pub give512_one : OneOutcome give512.ended (λ M 𝓤. give512.clauses {𝓤 = 𝓤})
 give512_one M 𝓤 𝓛 m r κs a g z z' ws ws' = plain 𝓤 (λ p q. let e = one_write p.0 q.0 in (e.1, λ i. (e.0 i, (tt, (tt, tt)))))
 
-pub give640_one : OneOutcome give640.ended (λ M. give640.clauses {M = M})
+pub give640_one : OneOutcome give640.ended (λ M 𝓤. give640.clauses {𝓤 = 𝓤})
 give640_one M 𝓤 𝓛 m r κs a g z z' ws ws' = plain 𝓤 (λ p q. let e = one_write p.0 q.0 in (e.1, λ i. (e.0 i, (tt, (tt, tt)))))
 
-pub give1024_one : OneOutcome give1024.ended (λ M. give1024.clauses {M = M})
+pub give1024_one : OneOutcome give1024.ended (λ M 𝓤. give1024.clauses {𝓤 = 𝓤})
 give1024_one M 𝓤 𝓛 m r κs a g z z' ws ws' = plain 𝓤 (λ p q. let e = one_write p.0 q.0 in (e.1, λ i. (e.0 i, (tt, (tt, tt)))))
 
-pub put_padded_one : OneOutcome put_padded.ended (λ M. put_padded.clauses {M = M})
+pub put_padded_one : OneOutcome put_padded.ended (λ M 𝓤. put_padded.clauses {𝓤 = 𝓤})
 put_padded_one M 𝓤 𝓛 m r κs a g z z' ws ws' = plain 𝓤 (λ p q. let e = one_write p q in (e.1, λ i. (e.0 i, (tt, (tt, (tt, tt))))))
 
-pub put_bytes_one : OneOutcome put_bytes.ended (λ M. put_bytes.clauses {M = M})
+pub put_bytes_one : OneOutcome put_bytes.ended (λ M 𝓤. put_bytes.clauses {𝓤 = 𝓤})
 put_bytes_one M 𝓤 𝓛 m r κs a g z z' ws ws' = plain 𝓤 (λ p q. let e = one_write p q in (e.1, λ i. (e.0 i, (tt, (tt, tt)))))
 
-pub put8_one : OneOutcome put8.ended (λ M. put8.clauses {M = M})
+pub put8_one : OneOutcome put8.ended (λ M 𝓤. put8.clauses {𝓤 = 𝓤})
 put8_one M 𝓤 𝓛 m r κs a g z z' ws ws' = plain 𝓤 (λ p q. let e = one_write p q in (e.1, λ i. (e.0 i, (tt, (tt, tt)))))
 
-pub put16_one : OneOutcome put16.ended (λ M. put16.clauses {M = M})
+pub put16_one : OneOutcome put16.ended (λ M 𝓤. put16.clauses {𝓤 = 𝓤})
 put16_one M 𝓤 𝓛 m r κs a g z z' ws ws' = plain 𝓤 (λ p q. let e = one_write p q in (e.1, λ i. (e.0 i, (tt, (tt, tt)))))
 
-pub put32_one : OneOutcome put32.ended (λ M. put32.clauses {M = M})
+pub put32_one : OneOutcome put32.ended (λ M 𝓤. put32.clauses {𝓤 = 𝓤})
 put32_one M 𝓤 𝓛 m r κs a g z z' ws ws' = plain 𝓤 (λ p q. let e = one_write p q in (e.1, λ i. (e.0 i, (tt, (tt, tt)))))
 
-pub wide_one : OneOutcome wide.ended (λ M. wide.clauses {M = M})
+pub wide_one : OneOutcome wide.ended (λ M 𝓤. wide.clauses {𝓤 = 𝓤})
 wide_one M 𝓤 𝓛 m r κs a g z z' ws ws' = plain 𝓤 (λ p q. one_equal p.0 q.0)
 
-pub pad3_one : OneOutcome pad3.ended (λ M. pad3.clauses {M = M})
+pub pad3_one : OneOutcome pad3.ended (λ M 𝓤. pad3.clauses {𝓤 = 𝓤})
 pad3_one M 𝓤 𝓛 m r κs a g z z' ws ws' = plain 𝓤 (λ p q. one_equal p.0 q.0)
 
-pub checked_one : OneOutcome checked.ended (λ M. checked.clauses {M = M})
+pub checked_one : OneOutcome checked.ended (λ M 𝓤. checked.clauses {𝓤 = 𝓤})
 checked_one M 𝓤 𝓛 m r κs a g z z' ws ws' = plain 𝓤 (λ p q. one_equal p q)
 
-pub both_one : OneOutcome both.ended (λ M. both.clauses {M = M})
+pub both_one : OneOutcome both.ended (λ M 𝓤. both.clauses {𝓤 = 𝓤})
 both_one M 𝓤 𝓛 m r κs a g z z' ws ws' = plain 𝓤 (λ p q. one_equal p q)
 
-pub either_one : OneOutcome either.ended (λ M. either.clauses {M = M})
+pub either_one : OneOutcome either.ended (λ M 𝓤. either.clauses {𝓤 = 𝓤})
 either_one M 𝓤 𝓛 m r κs a g z z' ws ws' = plain 𝓤 (λ p q. one_equal p q)
 
-pub unless_one : OneOutcome unless.ended (λ M. unless.clauses {M = M})
+pub unless_one : OneOutcome unless.ended (λ M 𝓤. unless.clauses {𝓤 = 𝓤})
 unless_one M 𝓤 𝓛 m r κs a g z z' ws ws' = plain 𝓤 (λ p q. one_equal p q)
 
-pub get8_one : OneOutcome get8.ended (λ M. get8.clauses {M = M})
+pub get8_one : OneOutcome get8.ended (λ M 𝓤. get8.clauses {𝓤 = 𝓤})
 get8_one M 𝓤 𝓛 m r κs a g z z' ws ws' = plain 𝓤 (λ p q. one_equal p q)
 
-pub get16_one : OneOutcome get16.ended (λ M. get16.clauses {M = M})
+pub get16_one : OneOutcome get16.ended (λ M 𝓤. get16.clauses {𝓤 = 𝓤})
 get16_one M 𝓤 𝓛 m r κs a g z z' ws ws' = plain 𝓤 (λ p q. one_equal p q)
 
-pub get32_one : OneOutcome get32.ended (λ M. get32.clauses {M = M})
+pub get32_one : OneOutcome get32.ended (λ M 𝓤. get32.clauses {𝓤 = 𝓤})
 get32_one M 𝓤 𝓛 m r κs a g z z' ws ws' = plain 𝓤 (λ p q. one_equal p q)
 
-pub has_room_one : OneOutcome has_room.ended (λ M. has_room.clauses {M = M})
+pub has_room_one : OneOutcome has_room.ended (λ M 𝓤. has_room.clauses {𝓤 = 𝓤})
 has_room_one M 𝓤 𝓛 m r κs a g z z' ws ws' = plain 𝓤 (λ p q. one_equal p q)
 
-pub equal_one : OneOutcome equal.ended (λ M. equal.clauses {M = M})
+pub equal_one : OneOutcome equal.ended (λ M 𝓤. equal.clauses {𝓤 = 𝓤})
 equal_one M 𝓤 𝓛 m r κs a g z z' ws ws' = plain 𝓤 (λ p q. one_equal p q)
 
-pub zero_from_one : OneOutcome zero_from.ended (λ M. zero_from.clauses {M = M})
+pub zero_from_one : OneOutcome zero_from.ended (λ M 𝓤. zero_from.clauses {𝓤 = 𝓤})
 zero_from_one M 𝓤 𝓛 m r κs a g z z' ws ws' = plain 𝓤 (λ p q. one_equal p q)
 
-pub part_one : OneSeen part.ended (λ M. part.clauses {M = M}) (List ℕ) (λ κs z. z.now)
+pub part_one : OneSeen part.ended (λ M 𝓤. part.clauses {𝓤 = 𝓤}) (List ℕ) (λ κs z. z.now)
 part_one M 𝓤 𝓛 m r κs a g z z' ws ws' = plain 𝓤 (λ p q. one_equal p q)
 
-pub rest_one : OneSeen rest.ended (λ M. rest.clauses {M = M}) (List ℕ) (λ κs z. z.now)
+pub rest_one : OneSeen rest.ended (λ M 𝓤. rest.clauses {𝓤 = 𝓤}) (List ℕ) (λ κs z. z.now)
 rest_one M 𝓤 𝓛 m r κs a g z z' ws ws' = plain 𝓤 (λ p q. one_equal p q)

@@ -1,4 +1,6 @@
 // Bytes: reads and writes on slices, all total. A write without room changes nothing.
+#![tactic(auto)]
+
 ghost use Rattle.std.specs.Prelude.{◌≡◌, ◌&&◌, ◌||◌, not, ◌++◌, ◌+◌, ◌*◌, ◌≤◌, ◌<◌, eqb, length, get_or, take, drop, replicate};
 ghost use Rattle.wire.specs.Wire.{verdict, part, put, room, Wrote, pad, num16, num32, be1, be2, be4, alike, all_zero};
 

@@ -1,4 +1,6 @@
 // An image written: that of a whole card, and a group of one anew where it stands. A write without room changes nothing.
+#![tactic(auto)]
+
 pub mod anew;
 mod whole;
 
