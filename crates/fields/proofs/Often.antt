@@ -55,11 +55,15 @@ Among f (one g r) = (f ≡ g) ⊎ Among f r
 
 -- it is counted
 counted : (f : Item) (r : Run) → Among f r → 1 ≤ copies f.tag r
+counted f ended x = elim x [ ]
+counted f broken x = elim x [ ]
 counted f (one g r) (inl e) = let i : eqb g.tag f.tag ≡ true = eq-eqb _ _ (sym (ap (λ x. x.tag) e)) in rw i (omega arith)
 counted f (one g r) (inr a) = let h = counted f r a in omega (arith, h)
 
 -- where a tag stands once, every field with it is the first
 pub only_one : (f : Item) (r : Run) → copies f.tag r ≡ 1 → Among f r → first_in f.tag r ≡ At f.start f.len
+only_one f ended h a = elim a [ ]
+only_one f broken h a = elim a [ ]
 only_one f (one g r) h a = go (λ k b. only_one f r k b) (eqb g.tag f.tag) refl h a
   where
     go : (copies f.tag r ≡ 1 → Among f r → first_in f.tag r ≡ At f.start f.len)

@@ -134,7 +134,7 @@ no_run {s} {at} x = after s at (past s at (omega (arith, ap length (x.bytes ∙ 
 
 whole_run : {s : List ℕ} {at : ℕ} (fs : List Tagged) → Stand s at fs → Writable fs → whole (rest_from s at) ≡ true
 whole_run [] x h = ap whole (no_run x)
-whole_run (f ∷ fs) x h = ap whole (first_run x h.0) ∙ whole_run fs (others x) h.1
+whole_run {s = s} {at = at} (f ∷ fs) x h = ap whole (first_run x h.0) ∙ whole_run {at = next at f} fs (others x) h.1
 
 -- a lookup asks whether the field is there, for its value, or both
 found_cond : (b : Bool) (i j : ℕ) (y : Found) → found (cond b (At i j) y) ≡ (b || found y)
@@ -151,18 +151,18 @@ holds_both s Absent code = refl
 
 found_run : (t : ℕ) {s : List ℕ} {at : ℕ} (fs : List Tagged) → Stand s at fs → Writable fs → found (first_in t (rest_from s at)) ≡ among t fs
 found_run t [] x h = ap (λ r. found (first_in t r)) (no_run x)
-found_run t (f ∷ fs) x h =
-    ap (λ r. found (first_in t r)) (first_run x h.0) ∙ found_cond (eqb f.tag t) _ _ _ ∙ ap (λ b. eqb f.tag t || b) (found_run t fs (others x) h.1)
+found_run t {s = s} {at = at} (f ∷ fs) x h =
+    ap (λ r. found (first_in t r)) (first_run x h.0) ∙ found_cond (eqb f.tag t) _ _ _ ∙ ap (λ b. eqb f.tag t || b) (found_run t {at = next at f} fs (others x) h.1)
 
 copies_run : (t : ℕ) {s : List ℕ} {at : ℕ} (fs : List Tagged) → Stand s at fs → Writable fs → copies t (rest_from s at) ≡ copies_of t fs
 copies_run t [] x h = ap (copies t) (no_run x)
-copies_run t (f ∷ fs) x h = ap (copies t) (first_run x h.0) ∙ ap (λ n. cond (eqb f.tag t) 1 0 + n) (copies_run t fs (others x) h.1)
+copies_run t {s = s} {at = at} (f ∷ fs) x h = ap (copies t) (first_run x h.0) ∙ ap (λ n. cond (eqb f.tag t) 1 0 + n) (copies_run t {at = next at f} fs (others x) h.1)
 
 value_run : (t : ℕ) {s : List ℕ} {at : ℕ} (fs : List Tagged) → Stand s at fs → Writable fs → value_of s (first_in t (rest_from s at)) ≡ first_of t fs
 value_run t {s} [] x h = ap (λ r. value_of s (first_in t r)) (no_run x)
-value_run t {s} (f ∷ fs) x h =
+value_run t {s = s} {at = at} (f ∷ fs) x h =
     ap (λ r. value_of s (first_in t r)) (first_run x h.0) ∙ value_cond s (eqb f.tag t) _ _ _
-    ∙ ap₂ (cond (eqb f.tag t)) (first_value x h.0) (value_run t fs (others x) h.1)
+    ∙ ap₂ (cond (eqb f.tag t)) (first_value x h.0) (value_run t {at = next at f} fs (others x) h.1)
 
 -- THE LAWS of written fields, over any list of them and any tag: they are a payload, and looking a tag up finds the first field with it, that field's value,
 -- and how many there are
