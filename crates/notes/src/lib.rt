@@ -7,7 +7,7 @@ ghost use Rattle.notes.specs.Notes.{blank, order_of, is_before, same_text, alike
 
 // Room after the text is zero, so that notes with the same content are the same bytes.
 #[repr(C)]
-#[derive(Drop)]
+#[derive(Clone, Copy)]
 pub struct Note {
     pub tablet: u8,
     pub number: u16,
@@ -16,7 +16,7 @@ pub struct Note {
     pub text: [u8; 60],
 }
 
-#[derive(Drop)]
+#[derive(Clone, Copy)]
 pub enum Order {
     Before,
     Same,
