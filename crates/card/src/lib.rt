@@ -12,13 +12,13 @@ ghost use Rattle.card.specs.Values.{u32, activated, created, spent, purged, afte
 ghost use Rattle.card.specs.Values.{no_block, no_issuer};
 
 // The codes: what no answer may tell.
-#[derive(Drop)]
+#[derive(Clone, Copy)]
 pub struct Codes {
     pub pin1: [u8; Codes::PIN_SIZE],
     pub pin2: [u8; Codes::PIN_SIZE],
 }
 
-#[derive(Drop)]
+#[derive(Clone, Copy)]
 pub struct Fixed {
     pub cid: [u8; Fixed::CID_SIZE],
     pub cvc: [u8; Fixed::CVC_SIZE],
@@ -28,7 +28,7 @@ pub struct Fixed {
     pub pause: u8,
 }
 
-#[derive(Drop)]
+#[derive(Clone, Copy)]
 pub struct Flags {
     pub reusable: u8,
     pub usecvc: u8,
@@ -39,7 +39,7 @@ pub struct Flags {
     pub active: u8,
 }
 
-#[derive(Drop)]
+#[derive(Clone, Copy)]
 pub struct Wallet {
     pub status: u8,
     pub number: u16,
@@ -48,13 +48,13 @@ pub struct Wallet {
 }
 
 // Wallet_PublicKey: the first `size` bytes.
-#[derive(Drop)]
+#[derive(Clone, Copy)]
 pub struct Key {
     pub size: u8,
     pub bytes: [u8; Key::ROOM],
 }
 
-#[derive(Drop)]
+#[derive(Clone, Copy)]
 pub struct Counters {
     pub checks: u32,
     pub validations: u16,
@@ -63,13 +63,13 @@ pub struct Counters {
 }
 
 // User_Data, User_ProtectedData, Issuer_Data: the first `size` bytes.
-#[derive(Drop)]
+#[derive(Clone, Copy)]
 pub struct Block {
     pub size: u16,
     pub bytes: [u8; Block::ROOM],
 }
 
-#[derive(Drop)]
+#[derive(Clone, Copy)]
 pub struct Issuer {
     pub block: Block,
     pub signature: [u8; Last::SIGNATURE_SIZE],
@@ -77,7 +77,7 @@ pub struct Issuer {
 }
 
 // The wrong codes counted; of the request that is held, the seconds left and the size, both 0 where none is.
-#[derive(Drop)]
+#[derive(Clone, Copy)]
 pub struct Wait {
     pub wrong: u8,
     pub left: u8,
@@ -85,21 +85,21 @@ pub struct Wait {
 }
 
 // The wait, and the request that is held: the first `size` bytes.
-#[derive(Drop)]
+#[derive(Clone, Copy)]
 pub struct Pending {
     pub wait: Wait,
     pub request: [u8; Pending::ROOM],
 }
 
 // The last signatures: the first `count`, of 64 bytes each.
-#[derive(Drop)]
+#[derive(Clone, Copy)]
 pub struct Last {
     pub count: u8,
     pub signatures: [u8; Last::ROOM],
 }
 
 // The groups of a few bytes.
-#[derive(Drop)]
+#[derive(Clone, Copy)]
 pub struct Front {
     pub fixed: Fixed,
     pub flags: Flags,
@@ -109,7 +109,7 @@ pub struct Front {
 }
 
 // User and issuer data.
-#[derive(Drop)]
+#[derive(Clone, Copy)]
 pub struct Held {
     pub user: Block,
     pub protected: Block,
@@ -117,7 +117,7 @@ pub struct Held {
 }
 
 // All but the codes.
-#[derive(Drop)]
+#[derive(Clone, Copy)]
 pub struct Face {
     pub front: Front,
     pub held: Held,
@@ -125,7 +125,7 @@ pub struct Face {
     pub last: Last,
 }
 
-#[derive(Drop)]
+#[derive(Clone, Copy)]
 pub struct Card {
     pub face: Face,
     pub codes: Codes,
