@@ -12,7 +12,7 @@ use Rattle.image.specs.contracts.counters as counters
 use Rattle.image.specs.contracts.note_counter as note_counter
 use Rattle.image.specs.contracts.wait as wait
 use Rattle.image.specs.contracts.last_count as last_count
-use Rattle.image.specs.contracts.is_card as is_card_lem
+use Rattle.image.specs.contracts.is_card as is_card
 use Rattle.image.specs.contracts.pin1 as pin1
 use Rattle.image.specs.contracts.pin2 as pin2
 use Rattle.image.specs.contracts.cid as cid
@@ -53,7 +53,7 @@ wait_one M 𝓤 𝓛 m r κs a g z z' ws ws' = plain 𝓤 (λ p q. one_equal p q
 pub last_count_one : OneOutcome last_count.ended (λ M 𝓤. last_count.clauses {𝓤 = 𝓤})
 last_count_one M 𝓤 𝓛 m r κs a g z z' ws ws' = plain 𝓤 (λ p q. one_equal p q)
 
-pub is_card_one : OneOutcome is_card_lem.ended (λ M 𝓤. is_card_lem.clauses {𝓤 = 𝓤})
+pub is_card_one : OneOutcome is_card.ended (λ M 𝓤. is_card.clauses {𝓤 = 𝓤})
 is_card_one M 𝓤 𝓛 m r κs a g z z' ws ws' = plain 𝓤 (λ p q. one_equal p q)
 
 pub pin1_one : OneSeen pin1.ended (λ M 𝓤. pin1.clauses {𝓤 = 𝓤}) (List ℕ) (λ κs z. z.now)

@@ -7,7 +7,7 @@ use Rattle.sheet.specs.contracts.flag_of as flag_of
 use Rattle.sheet.specs.contracts.pause_of as pause_of
 use Rattle.sheet.specs.contracts.is_pause_line as is_pause_line
 use Rattle.sheet.specs.contracts.pause_in as pause_in
-use Rattle.sheet.specs.contracts.first_bad as first_bad_lem
+use Rattle.sheet.specs.contracts.first_bad as first_bad
 use Rattle.sheet.specs.contracts.has_pause as has_pause
 use Rattle.sheet.specs.contracts.belongs as belongs
 use Rattle.sheet.specs.contracts.line_after as line_after
@@ -30,7 +30,7 @@ is_pause_line_one M 𝓤 𝓛 m r κs a g z z' ws ws' = plain 𝓤 (λ p q. one_
 pub pause_in_one : OneOutcome pause_in.ended (λ M 𝓤. pause_in.clauses {𝓤 = 𝓤})
 pause_in_one M 𝓤 𝓛 m r κs a g z z' ws ws' = plain 𝓤 (λ p q. one_equal p q)
 
-pub first_bad_one : OneOutcome first_bad_lem.ended (λ M 𝓤. first_bad_lem.clauses {𝓤 = 𝓤})
+pub first_bad_one : OneOutcome first_bad.ended (λ M 𝓤. first_bad.clauses {𝓤 = 𝓤})
 first_bad_one M 𝓤 𝓛 m r κs a g z z' ws ws' = plain 𝓤 (λ p q. one_equal p q)
 
 pub has_pause_one : OneOutcome has_pause.ended (λ M 𝓤. has_pause.clauses {𝓤 = 𝓤})

@@ -5,7 +5,7 @@ use Rattle.shelf.specs.contracts.blanks as blanks
 use Rattle.shelf.specs.contracts.put as put
 use Rattle.shelf.specs.contracts.got as got
 use Rattle.shelf.specs.contracts.lesser as lesser
-use Rattle.shelf.specs.contracts.first_bad as first_bad_lem
+use Rattle.shelf.specs.contracts.first_bad as first_bad
 use Rattle.shelf.specs.contracts.answered as answered
 use Rattle.shelf.specs.contracts.outcome_in as outcome_in
 use Rattle.shelf.specs.contracts.notes_in as notes_in
@@ -24,7 +24,7 @@ got_one M 𝓤 𝓛 m r κs a g z z' ws ws' = plain 𝓤 (λ p q. one_equal p q)
 pub lesser_one : OneOutcome lesser.ended (λ M 𝓤. lesser.clauses {𝓤 = 𝓤})
 lesser_one M 𝓤 𝓛 m r κs a g z z' ws ws' = plain 𝓤 (λ p q. one_equal p q)
 
-pub first_bad_one : OneOutcome first_bad_lem.ended (λ M 𝓤. first_bad_lem.clauses {𝓤 = 𝓤})
+pub first_bad_one : OneOutcome first_bad.ended (λ M 𝓤. first_bad.clauses {𝓤 = 𝓤})
 first_bad_one M 𝓤 𝓛 m r κs a g z z' ws ws' = plain 𝓤 (λ p q. one_equal p q)
 
 pub answered_one : OneOutcome answered.ended (λ M 𝓤. answered.clauses {𝓤 = 𝓤})

@@ -8,7 +8,7 @@ use Rattle.text.specs.contracts.put_decimal as put_decimal
 use Rattle.text.specs.contracts.unhex as unhex
 use Rattle.text.specs.contracts.is_hex as is_hex
 use Rattle.text.specs.contracts.is_digits as is_digits
-use Rattle.text.specs.contracts.number_of as number_of_lem
+use Rattle.text.specs.contracts.number_of as number_of
 use Rattle.text.specs.contracts.lines.length_to as lines_length_to
 use Rattle.text.specs.contracts.lines.next_line as lines_next_line
 use Rattle.text.specs.contracts.lines.start_of as lines_start_of
@@ -32,7 +32,7 @@ is_hex_one M 𝓤 𝓛 m r κs a g z z' ws ws' = plain 𝓤 (λ p q. one_equal p
 pub is_digits_one : OneOutcome is_digits.ended (λ M 𝓤. is_digits.clauses {𝓤 = 𝓤})
 is_digits_one M 𝓤 𝓛 m r κs a g z z' ws ws' = plain 𝓤 (λ p q. one_equal p q)
 
-pub number_of_one : OneOutcome number_of_lem.ended (λ M 𝓤. number_of_lem.clauses {𝓤 = 𝓤})
+pub number_of_one : OneOutcome number_of.ended (λ M 𝓤. number_of.clauses {𝓤 = 𝓤})
 number_of_one M 𝓤 𝓛 m r κs a g z z' ws ws' = plain 𝓤 (λ p q. one_equal p q)
 
 pub lines_length_to_one : OneOutcome lines_length_to.ended (λ M 𝓤. lines_length_to.clauses {𝓤 = 𝓤})
