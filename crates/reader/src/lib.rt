@@ -1,6 +1,5 @@
 // A reader that holds the payload and its place, 01 "Requests and fields": thin functions over the field walk on a slice and a
-// number, each proved by hand (a struct that holds a reference is not covered). Whoever walks a payload calls `step`, and needs no
-// proof by hand.
+// number. Whoever walks a payload calls `step`.
 #![tactic(auto)]
 
 ghost use Rattle.std.specs.Prelude.{◌≡◌};
