@@ -11,7 +11,7 @@ use notes::Note;
 // "at most 256 notes"
 pub const MOST: usize = 256;
 
-#[derive(Drop)]
+#[derive(Clone, Copy)]
 pub enum Outcome {
     Done(u32),
     BadLine { book: u8, line: u16 },
@@ -38,7 +38,7 @@ pub struct Shelf {
 }
 
 // An outcome, and the notes that it leaves, `count` of them.
-#[derive(Drop)]
+#[derive(Clone, Copy)]
 pub struct Answer {
     pub outcome: Outcome,
     pub notes: [Note; MOST],
