@@ -1,5 +1,5 @@
 -- The drill sheet, 01 "Drill sheet", all twelve rows as one table of the definitions. Assumes nothing.
-use Rattle.std.specs.Prelude.{ℕ, ◌+◌, ◌≡◌, refl, List, [], ◌∷◌, ◌++◌, true, false, length, take, replicate}
+use Rattle.std.specs.Prelude.{ℕ, ◌≡◌, refl, List, [], ◌∷◌, ◌++◌, true, false, length, take, replicate}
 use Rattle.wire.specs.Wire.{part, put, fit, room, joined, alike, all_zero, be2, be4}
 use Rattle.fields.specs.Fields.{ended, one, rest_from, run_n, step_at, field_at, well_formed, view_of, has, val, holds, twice}
 use Rattle.fields.specs.Fields.{Tagged, fld, head_of, tlv, each, written}

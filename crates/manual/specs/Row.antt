@@ -1,5 +1,5 @@
 -- A command as a row; its questions and the shape of their answers; the checks 1 to 12 as one list of rules over a row. Assumes nothing.
-use Rattle.std.specs.Prelude.{ℕ, ◌+◌, List, [], ◌∷◌, ◌++◌, Bool, true, cond, not, ◌&&◌, ◌||◌, length, get_or, take, drop, leb, eqb}
+use Rattle.std.specs.Prelude.{ℕ, List, [], ◌∷◌, ◌++◌, Bool, true, cond, not, ◌&&◌, ◌||◌, length, get_or, take, drop, leb, eqb}
 use Rattle.wire.specs.Wire.{be1, be2, joined}
 use Rattle.fields.specs.Fields.{View, holds, twice, Tagged}
 use Rattle.card.specs.declared.Face.{Face}

@@ -18,7 +18,7 @@ use Rattle.manual.specs.Wallet.{curve_name}
 use Rattle.manual.specs.Delay.{is_held, pace_by}
 use Rattle.manual.specs.Settle.{judged_by, sent_in, done, answered, said, pace_of, paced, holding, settle_call, Settled, outcome, lent, roomy, settled_of, settled}
 use Rattle.manual.specs.Settle.{ask_call, asked_of, asked_for, powered_off}
-use Rattle.manual.specs.ByHand.{cid, seed, request, draw, told, left}
+use Rattle.manual.specs.ByHand.{cid, seed, request, draw, told}
 
 abbrev card : Card
 card =
