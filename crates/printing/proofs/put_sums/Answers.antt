@@ -1,0 +1,11 @@
+use Rattle.printing.proofs.Laws.{sums_short}
+use Rattle.wire.proofs.Laws.{wrote_append}
+use Rattle.printing.proofs.put_sums.Goals as goal
+
+pub returns : goal.returns
+returns c = let x = c.args in (
+  wrote_append c.put_number-a.ensures.0
+      (wrote_append c.put_number-b.ensures.0 (wrote_append c.put_number-c.ensures.0 c.put_number.ensures.0)),
+  sums_short x.remaining x.signed x.made x.hashes c.put_number-a.ensures.1 c.put_number-b.ensures.1 c.put_number-c.ensures.1
+      c.put_number.ensures.1,
+)
