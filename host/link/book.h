@@ -4,8 +4,8 @@
  * tablet comes first in its order, then the number. Two books joined in either order give the same book, and each note of both stands in
  * it once.
  *
- *   host/build                       makes target/host/lib/libbook.a and libbook.so (x86-64): the proved library, as rt staticlib book
- *                                    writes it
+ *   host/build                       makes target/host/lib/libbook.a and libbook.so (x86-64): the proved library, as rt lib writes
+ *                                    it in crates/book_c
  *   cc host.c target/host/lib/libbook.a
  *
  * Every pointer is followed by a count: of bytes for a text, of places for a list of notes. No pointer may be NULL, also where its count

@@ -5,7 +5,7 @@
  * practice_power_off is the card leaving the reader's field. The library keeps nothing between calls: the host keeps the image.
  *
  *   host/build                       makes target/host/lib/libpractice.a and libpractice.so (x86-64): the proved library, as
- *                                    rt staticlib practice writes it, and beside it practice_view.h and practice_request.h
+ *                                    rt lib writes it in crates/practice_c, and beside it practice_view.h and practice_request.h
  *   cc host.c target/host/lib/libpractice.a
  *
  * Every pointer is followed by a length in bytes. No pointer may be NULL, also where its length is 0, and the buffers that are written
