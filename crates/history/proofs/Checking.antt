@@ -1,6 +1,6 @@
 -- THE CONDUCT of the commands that prove something to a challenger: F9, F3, F4. Assumes nothing.
 use Prim.Native.Nat.{ℕ}
-use mathlib.Core.Path.{◌≡◌, refl}
+use mathlib.Core.Path.{◌≡◌, refl, sym, subst}
 use mathlib.Core.Bool.{true}
 use mathlib.Core.List.{List}
 use Rattle.card.specs.declared.Face.{Face}
@@ -26,7 +26,8 @@ module _ (m : Matched) (f : Face) (q d a : List ℕ) where
             (λ _. by_cases (λ z. quiet z ≡ true) (key_alone (sent_in q)) (λ _. refl) (λ _. refl))
             (λ _. refl));
         asks =
-            rw (loaded check_wallet.needs f.front.wallet.status p.allows refl refl)
+            subst (λ s. all_kinds (may_ask (code CheckWallet) s) (check_wallet.questions f (sent_in q) d) ≡ true)
+            (sym (loaded check_wallet.needs f.front.wallet.status p.allows refl refl))
             (by_cases (λ z. all_kinds (may_ask (code CheckWallet) 2) z ≡ true) (key_asked (sent_in q)) (λ _. refl) (λ _. refl));
         keeps = λ sh x h r i t s. rw (t.create, t.pin, t.sign, t.purge, t.activate) i;
         stays = λ o g. ok_counters f o (checked_once f.front.counters);
