@@ -3,7 +3,7 @@
 
 pub mod tag;
 
-#[derive(Drop)]
+#[derive(Clone, Copy)]
 pub enum Command {
     ReadCard,
     CreateWallet,
@@ -35,14 +35,14 @@ pub enum Lc {
 }
 
 // What SIGN asks for: new signatures, of a hash array of so many bytes, or the last ones again.
-#[derive(Drop)]
+#[derive(Clone, Copy)]
 pub enum Signing {
     New(usize),
     Again,
 }
 
 // What the checks say: the command, or the number of the first that fails and its status word.
-#[derive(Drop)]
+#[derive(Clone, Copy)]
 pub enum Verdict {
     Pass(Command),
     Stop(u8, u16),
@@ -50,7 +50,7 @@ pub enum Verdict {
 
 // What the delay makes of a request (02 Ask 7): refused by checks 1 to 10, over a code that counts as wrong or not; it waits, so many
 // seconds being left; or it goes on.
-#[derive(Drop)]
+#[derive(Clone, Copy)]
 pub enum Pace {
     Refused(bool),
     Waits(u8),
@@ -59,7 +59,7 @@ pub enum Pace {
 
 // The part of a command's row that no request changes: whether check 7 is made, whether it runs on a card that is not activated,
 // the statuses that allow it, and whether it asks for the CVC where that is used.
-#[derive(Drop)]
+#[derive(Clone, Copy)]
 pub struct Needs {
     pub cid: bool,
     pub asleep: bool,
