@@ -1,12 +1,10 @@
--- A card that code holds has its shape: what the type of a parameter (`c .. .good`) or of a call's result (`c .. .ok`) says of its arrays. Assumes nothing.
-use Prim.Native.Nat.{ℕ}
+-- A card that code holds has its shape: what the type of a parameter says of its arrays (`c.well_formed`). Assumes nothing.
 use mathlib.Core.Path.{◌≡◌}
 use mathlib.Core.List.{List}
 use lib.ListN.{length}
 use mir.Val.{Val}
 use denote.Laws.{Is}
 use denote.Struct.Declared.{row}
-use borrow.Author.Rules.{length_unmapped}
 use Rattle.card.specs.declared.Codes.{Codes}
 use Rattle.card.specs.declared.Fixed.{Fixed}
 use Rattle.card.specs.declared.Key.{Key}
@@ -29,39 +27,39 @@ use Rattle.card.specs.contracts.Front as front
 use Rattle.card.specs.contracts.Held as held
 use Rattle.card.specs.contracts.Face as face
 use Rattle.card.specs.contracts.Card as card
-use Rattle.card.specs.Layout.{pin_size, cid_size, cvc_size, seed_size, key_room, data_room, signature_size, held_room, last_room}
+use Rattle.card.specs.Layout.{key_room, data_room, held_room, last_room}
 use Rattle.card.specs.Shape.{ShapeCodes, ShapeFixed, ShapeIssuer, ShapeFront, ShapeHeld, ShapeFace, Shape}
 
 codes_held : (x : Codes) (vs : List Val) → Is (row codes.the_type) x vs → ShapeCodes x
 codes_held x vs g =
     let f = g.1.1 in
-    record { pin1 = length_unmapped ℕ x.pin1 pin_size f.0.1.0.1; pin2 = length_unmapped ℕ x.pin2 pin_size f.1.0.1.0.1 }
+    record { pin1 = f.0.1.0.1; pin2 = f.1.0.1.0.1 }
 
 fixed_held : (x : Fixed) (vs : List Val) → Is (row fixed.the_type) x vs → ShapeFixed x
 fixed_held x vs g =
     let f = g.1.1 in
     record {
-      cid = length_unmapped ℕ x.cid cid_size f.0.1.0.1;
-      cvc = length_unmapped ℕ x.cvc cvc_size f.1.0.1.0.1;
-      seed = length_unmapped ℕ x.seed seed_size f.1.1.1.1.0.1.0.1;
+      cid = f.0.1.0.1;
+      cvc = f.1.0.1.0.1;
+      seed = f.1.1.1.1.0.1.0.1;
     }
 
 key_held : (x : Key) (vs : List Val) → Is (row key.the_type) x vs → length x.bytes ≡ key_room
-key_held x vs g = length_unmapped ℕ x.bytes key_room g.1.1.1.0.1.0.1
+key_held x vs g = g.1.1.1.0.1.0.1
 
 block_held : (x : Block) (vs : List Val) → Is (row block.the_type) x vs → length x.bytes ≡ data_room
-block_held x vs g = length_unmapped ℕ x.bytes data_room g.1.1.1.0.1.0.1
+block_held x vs g = g.1.1.1.0.1.0.1
 
 issuer_held : (x : Issuer) (vs : List Val) → Is (row issuer.the_type) x vs → ShapeIssuer x
 issuer_held x vs g =
     let f = g.1.1 in
-    record { block = block_held x.block _ f.0; signature = length_unmapped ℕ x.signature signature_size f.1.0.1.0.1 }
+    record { block = block_held x.block _ f.0; signature = f.1.0.1.0.1 }
 
 pending_held : (x : Pending) (vs : List Val) → Is (row pending.the_type) x vs → length x.request ≡ held_room
-pending_held x vs g = length_unmapped ℕ x.request held_room g.1.1.1.0.1.0.1
+pending_held x vs g = g.1.1.1.0.1.0.1
 
 last_held : (x : Last) (vs : List Val) → Is (row last.the_type) x vs → length x.signatures ≡ last_room
-last_held x vs g = length_unmapped ℕ x.signatures last_room g.1.1.1.0.1.0.1
+last_held x vs g = g.1.1.1.0.1.0.1
 
 front_held : (x : Front) (vs : List Val) → Is (row front.the_type) x vs → ShapeFront x
 front_held x vs g =

@@ -9,7 +9,7 @@ use card::{Block, Codes, Counters, Flags, Key, Last, Pending, Wait, Wallet, layo
 
 pub fn codes(img: &mut [u8], pin1: &[u8], pin2: &[u8]) -> usize
     ensures { Wrote img.old codes_at
-        (enc_codes (record { pin1 = pad pin_size pin1.entry.now; pin2 = pad pin_size pin2.now }))
+        (enc_codes (record { pin1 = pad pin_size pin1.now; pin2 = pad pin_size pin2.now }))
         img.new result }
 {
     if wire::has_room(img.len(), layout::CODES_AT, layout::CODES_WIDTH) {
