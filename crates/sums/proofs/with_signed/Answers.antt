@@ -1,0 +1,4 @@
+use Rattle.sums.proofs.with_signed.Goals as goal
+
+pub returns : goal.returns
+returns c = cc
