@@ -1,6 +1,5 @@
 -- WHO TELLS WHAT READ_CARD TELLS: READ_CARD, and ACTIVATE_CARD of the card after. They share an arm, so that its fields are told in one place. Assumes nothing.
 use Prim.Native.Nat.{ℕ}
-use native.Mathlib.Omega.{arith}
 use mathlib.Core.Path.{◌≡◌, refl}
 use mathlib.Core.Logic.{◌⊎◌, inl, inr}
 use mathlib.Core.List.{List}
