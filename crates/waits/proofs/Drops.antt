@@ -24,7 +24,7 @@ use Rattle.manual.specs.declared.Pace.{Pace}
 use Rattle.manual.specs.declared.Pace.TheVariants.{Refused, Waits, Goes}
 use Rattle.manual.specs.Delay.{entered, is_held, pending_after, pending_off}
 use Rattle.manual.specs.Settle.{State, Call, sent_in, matched, judged, said, said_by, leaving, paced_by, paced, waiting, card_after, powered_off}
-use Rattle.story.specs.Buffers.{image, image_off}
+use Rattle.story.specs.Buffers.{image_off}
 use Rattle.history.specs.Demands.{AnyCard, Demand2, settle_stop, off_stop, ButWait, wait_in, only_counted, image_by}
 use Rattle.history.specs.Waiting.{enters, over_wrong, Dropped}
 use Rattle.history.proofs.Choice.{clash}

@@ -83,4 +83,4 @@ number_goes {f} h s i n = go (eqb (settle_stop s i) 0) refl
   where
     go : (b : Bool) → eqb (settle_stop s i) 0 ≡ b → settle_stop s i ≡ 0
     go true e = eqb-true (settle_stop s i) 0 e
-    go false e = sym (ap (λ z. z.result.number) ((demand1 f h).settleStops s i e)) ∙ n
+    go false e = sym (ap (λ z. z.result.number) ((demand1 f h).settle_stops s i e)) ∙ n
