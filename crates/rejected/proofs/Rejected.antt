@@ -155,7 +155,7 @@ by_asks (due z e) f g = g z
 pub eager_rejected : Demand3 eager → ⊥
 unfolding run
 eager_rejected h =
-    by_asks ((h.next sheet0 image0 fresh0 (taps_of (creates ∷ [])) (call (request codes1 Sign (hashes 1 5)) [])).signAsks refl)
+    by_asks ((h.next sheet0 image0 fresh0 (taps_of (creates ∷ [])) (call (request codes1 Sign (hashes 1 5)) [])).sign_asks refl)
     (λ e. let z : ◌≡◌ {A = ℕ} 38 0 = ap length e in absurd (omega arith))
     (λ z. clash z.entitled.pin1 refl)
 
