@@ -53,6 +53,7 @@ right_fields h {m} {i} y = sym (ap (λ k. (row k).fields (decode m).face (sent_i
 -- of each request that was sent
 module _ {f : AnyCard} (h : Demand2 f) (m : List ℕ) where
   sent_formed : (is : List Call) → AllStore f m is → (q : List ℕ) → Sent q is → Formed (sent_in q) × Bytes q
+  sent_formed [] y q s = elim s [ ]
   sent_formed (i ∷ is) y q (now p) = subst (λ q. Formed (sent_in q) × Bytes q) p (formed (sent_in i.request) (right_fields h y.0), y.0.bytes)
   sent_formed (i ∷ is) y q (later s) = sent_formed is y.1 q s
 
@@ -116,6 +117,8 @@ module _ (f : AnyCard) (h : Demand2 f) (m : List ℕ) (u : Ready m) where
 module _ (f : AnyCard) (h : Demand2 f) (m : List ℕ) (u : Ready m) where
   alone : (i : Call) → TwoByTwo (i ∷ [])
   alone i q r (now p) (now k) = again (sym p ∙ k)
+  alone i q r (now p) (later k) = elim k [ ]
+  alone i q r (later p) _ = elim p [ ]
 
   pub sent_stands :
       (i : Call) → Stores f m i → (t : ℕ) → is_of t user_tags ≡ true → is_in t (payload i.request) ≡ true

@@ -61,6 +61,7 @@ module _ {A : Type 0} (t : ℕ) (g : View → A) where
       ∙ stays_there is x (λ q s. a q (later s))
 
   comes_to : (is : List Call) (x z : A) → Agree is x → (q : List ℕ) → Sent q is → has t (sent_in q) ≡ true → kept_all t g is z ≡ x
+  comes_to [] x z a q s e = elim s [ ]
   comes_to (i ∷ is) x z a q (now p) e =
       let own = subst (λ q. has t (sent_in q) ≡ true) (sym p) e in
       ap (kept_all t g is) (ap (λ b. cond b (g (sent_in i.request)) z) own ∙ a i.request (now refl) own) ∙ stays_there is x (λ q s. a q (later s))
