@@ -1,0 +1,40 @@
+use Rattle.checks.proofs.fields_ok.Goals as goal
+
+pub returns-in-ReadCard : goal.returns-in-ReadCard
+returns-in-ReadCard c = rw c.in-ReadCard.is
+
+pub returns-in-CreateWallet : goal.returns-in-CreateWallet
+returns-in-CreateWallet c = rw c.in-CreateWallet.is
+
+pub returns-in-CheckWallet : goal.returns-in-CheckWallet
+returns-in-CheckWallet c = rw c.in-CheckWallet.is c.check_fields.ensures
+
+pub returns-in-SetPin : goal.returns-in-SetPin
+returns-in-SetPin c = rw c.in-SetPin.is c.pin_fields.ensures
+
+pub returns-in-Sign : goal.returns-in-Sign
+returns-in-Sign c = rw c.in-Sign.is c.sign_fields.ensures
+
+pub returns-in-VerifyCard : goal.returns-in-VerifyCard
+returns-in-VerifyCard c = rw c.in-VerifyCard.is c.is_challenged.ensures
+
+pub returns-in-ValidateCard : goal.returns-in-ValidateCard
+returns-in-ValidateCard c = rw c.in-ValidateCard.is
+
+pub returns-in-PurgeWallet : goal.returns-in-PurgeWallet
+returns-in-PurgeWallet c = rw c.in-PurgeWallet.is
+
+pub returns-in-ReadUserData : goal.returns-in-ReadUserData
+returns-in-ReadUserData c = rw c.in-ReadUserData.is
+
+pub returns-in-WriteUserData : goal.returns-in-WriteUserData
+returns-in-WriteUserData c = rw c.in-WriteUserData.is c.user_fields.ensures
+
+pub returns-in-WriteIssuerData : goal.returns-in-WriteIssuerData
+returns-in-WriteIssuerData c = rw c.in-WriteIssuerData.is c.issuer_fields.ensures
+
+pub returns-in-ReadIssuerData : goal.returns-in-ReadIssuerData
+returns-in-ReadIssuerData c = rw c.in-ReadIssuerData.is c.mode_ok.ensures
+
+pub returns-in-ActivateCard : goal.returns-in-ActivateCard
+returns-in-ActivateCard c = rw c.in-ActivateCard.is c.activation_fields.ensures
