@@ -3,19 +3,18 @@
 #![tactic(auto)]
 
 use card::Codes;
-use libc::STDOUT_FILENO;
 use text::lines;
 
 // The digits of a code and the line feed.
 const LINE_SIZE: usize = 65;
 
-fn print(code: &[u8]) {
+fn print(rt: &impl Print, code: &[u8]) {
     let mut line = [lines::LINE_FEED; LINE_SIZE];
     text::put_hex(&mut line, 0, code);
-    io::write_all(STDOUT_FILENO, &line);
+    console::say(rt, &line);
 }
 
-fn main() {
-    print(&Codes::DEFAULT_PIN1);
-    print(&Codes::DEFAULT_PIN2);
+fn main(rt: HostRuntime) {
+    print(&rt, &Codes::DEFAULT_PIN1);
+    print(&rt, &Codes::DEFAULT_PIN2);
 }
