@@ -20,7 +20,8 @@ fn taken(list: &[Note]) -> [Note; MOST]
     let mut out = shelf::blanks();
     let mut i: usize = 0;
     while i < n {
-        out = shelf::put(out, i, list[i]);
+        let longer = shelf::put(out, i, list[i]);
+        out = longer;
         i += 1;
     }
     out
