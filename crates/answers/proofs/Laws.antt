@@ -66,7 +66,7 @@ exactly_shaped none a = refl
 exactly_shaped (more e none) a = exact_any 64 a ∙ sym (ap (λ w. fitting w a) e)
 exactly_shaped (more e (more {x = y} {xs = ys} {n = n} f s)) a =
     sym (one_more (suc n) a)
-    ∙ ap (λ b. fitting signature (take 64 a) && b) (exactly_shaped (more f s) (drop 64 a))
+    ∙ ap (λ b. fitting signature (take 64 a) && b) (exactly_shaped (more {x = y} f s) (drop 64 a))
     ∙ sym (ap (λ w. fitting w (take w.least a) && shaped (y ∷ ys) (drop w.least a)) e)
 
 -- SIGN asks for one a hash
