@@ -7,16 +7,11 @@ ghost use Rattle.std.specs.Prelude.{◌+◌, ◌≤◌, ◌<◌, length};
 ghost use Rattle.card.specs.Layout.{image_size};
 
 use card::layout;
-use libc::{STDIN_FILENO, STDOUT_FILENO};
+use console::{say, say_number};
 use wire::Check;
 
-fn say(s: &[u8]) {
-    io::write_all(STDOUT_FILENO, s);
-}
-
-fn say_number(n: usize) {
-    io::print_decimal(STDOUT_FILENO, n as u64);
-}
+// The most bytes of a line's image that are looked at.
+const LINE_ROOM: usize = 4096;
 
 fn flag(img: &[u8]) -> u8 {
     match image::is_card(img) {
@@ -129,18 +124,18 @@ fn run_end(img: &[u8], from: usize, values: &[u8]) -> usize
     at
 }
 
-fn say_row(first: usize, last: usize, values: &[u8]) {
-    say_number(first);
+fn say_row(rt: &impl Print, first: usize, last: usize, values: &[u8]) {
+    say_number(rt, first);
     if first < last {
-        say(b"-");
-        say_number(last);
+        say(rt, b"-");
+        say_number(rt, last);
     }
-    say(b"\t");
-    say(values);
-    say(b"\n");
+    say(rt, b"\t");
+    say(rt, values);
+    say(rt, b"\n");
 }
 
-fn report_run(img: &[u8], first: usize) -> usize
+fn report_run(rt: &impl Print, img: &[u8], first: usize) -> usize
     requires { first < image_size }
     ensures { (first < result) × (result ≤ image_size) }
 {
@@ -148,64 +143,64 @@ fn report_run(img: &[u8], first: usize) -> usize
     let n = put_values(img, first, &mut out);
     let values = wire::part(&out, 0, n);
     let end = run_end(img, first + 1, values);
-    say_row(first, end - 1, values);
+    say_row(rt, first, end - 1, values);
     end
 }
 
-fn report_runs(img: &[u8]) {
+fn report_runs(rt: &impl Print, img: &[u8]) {
     let mut at = 0;
     while at < layout::IMAGE_SIZE {
-        at = report_run(img, at);
+        at = report_run(rt, img, at);
     }
 }
 
-fn report(img: &[u8]) {
-    report_runs(img);
-    say(b"--\n");
+fn report(rt: &impl Print, img: &[u8]) {
+    report_runs(rt, img);
+    say(rt, b"--\n");
 }
 
-fn report_length(img: &[u8]) {
-    say_number(img.len());
+fn report_length(rt: &impl Print, img: &[u8]) {
+    say_number(rt, img.len());
     match image::is_card(img) {
-        Check::Fine => say(b"\tyes\n"),
-        Check::Failed => say(b"\tno\n"),
+        Check::Fine => say(rt, b"\tyes\n"),
+        Check::Failed => say(rt, b"\tno\n"),
     }
 }
 
-fn image_line(line: &[u8]) {
-    let mut space = io::buffer();
+fn image_line(rt: &impl Print, line: &[u8]) {
+    let mut space = [0u8; LINE_ROOM];
     let n = text::unhex(line, &mut space, 0);
     let img = wire::part(&space, 0, n);
     if n == layout::IMAGE_SIZE {
-        report(img);
+        report(rt, img);
         return;
     }
-    report_length(img);
+    report_length(rt, img);
 }
 
 // Runs the line that ends at i, if one does, and answers where the line in hand starts.
-fn line_to(input: &[u8], start: usize, i: usize) -> usize
+fn line_to(rt: &impl Print, input: &[u8], start: usize, i: usize) -> usize
     requires { (start ≤ i) × (i < length input.now) }
     ensures { result ≤ i + 1 }
 {
     if input[i] == b'\n' {
-        image_line(&input[start..i]);
+        image_line(rt, &input[start..i]);
         return i + 1;
     }
     start
 }
 
-fn run_lines(input: &[u8]) {
+fn run_lines(rt: &impl Print, input: &[u8]) {
     let mut start = 0;
     let mut i = 0;
     while i < input.len() {
-        start = line_to(input, start, i);
+        start = line_to(rt, input, start, i);
         i += 1;
     }
 }
 
-fn main() {
+fn main(rt: HostRuntime) {
     let mut input = [0u8; 131072];
-    let n = io::read_full(STDIN_FILENO, &mut input);
-    run_lines(&input[..n]);
+    let n = console::read_full(&mut rt.stdin(), &mut input);
+    run_lines(&rt, &input[..n]);
 }
