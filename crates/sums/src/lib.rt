@@ -13,7 +13,7 @@ use manual::{Outcome, Signing, tag};
 use sent::Places;
 
 // Whether a wallet lives, the SIGNs that made new signatures since its creation, all hashes newly signed.
-#[derive(Drop)]
+#[derive(Clone, Copy)]
 pub struct Sums {
     pub live: bool,
     pub made: u32,
