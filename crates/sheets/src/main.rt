@@ -3,8 +3,10 @@
 #![tactic(auto)]
 
 use card::layout;
-use libc::{STDIN_FILENO, STDOUT_FILENO};
 use text::{Number, lines};
+
+// The most bytes of a sheet that are looked at.
+const SHEET_ROOM: usize = 4096;
 
 // What the image buffer holds before.
 const FILL: u8 = 165;
@@ -33,11 +35,11 @@ fn put_answer(out: &mut [u8], answer: u32, image: &[u8]) -> usize {
     text::put_hex(out, d, wire::part(image, 0, layout::IMAGE_SIZE))
 }
 
-fn print(answer: u32, image: &[u8]) {
+fn print(rt: &impl Print, answer: u32, image: &[u8]) {
     let mut line = [0u8; 8192];
     let n = put_answer(&mut line, answer, image);
-    io::write_all(STDOUT_FILENO, wire::part(&line, 0, n));
-    io::write_all(STDOUT_FILENO, b"\n");
+    console::say(rt, wire::part(&line, 0, n));
+    console::say(rt, b"\n");
 }
 
 fn size_of(s: &[u8]) -> usize {
@@ -56,31 +58,32 @@ fn personalise(sheet: &[u8], image: &mut [u8], size: usize) -> u32 {
     personalise::personalise(sheet, image)
 }
 
-fn run(size: usize, sheet: &[u8]) {
+fn run(rt: &impl Print, size: usize, sheet: &[u8]) {
     let mut image = [FILL; 8192];
     let answer = personalise(sheet, &mut image, size);
-    print(answer, &image);
+    print(rt, answer, &image);
 }
 
-fn run_case(case: &[u8]) {
-    let mut sheet = io::buffer();
+fn run_case(rt: &impl Print, case: &[u8]) {
+    let mut sheet = [0u8; SHEET_ROOM];
     let n = text::unhex(lines::tail_after(case, lines::TAB), &mut sheet, 0);
     run(
+        rt,
         size_of(lines::head_to(case, lines::TAB)),
         wire::part(&sheet, 0, n),
     );
 }
 
-fn run_all(cases: &[u8]) {
+fn run_all(rt: &impl Print, cases: &[u8]) {
     let mut at = 0;
     while at < cases.len() {
-        run_case(lines::head_to(wire::rest(cases, at), lines::LINE_FEED));
+        run_case(rt, lines::head_to(wire::rest(cases, at), lines::LINE_FEED));
         at = lines::next_line(cases, at);
     }
 }
 
-fn main() {
+fn main(rt: HostRuntime) {
     let mut input = [0u8; 262144];
-    let n = io::read_full(STDIN_FILENO, &mut input);
-    run_all(&input[..n]);
+    let n = console::read_full(&mut rt.stdin(), &mut input);
+    run_all(&rt, &input[..n]);
 }
