@@ -140,10 +140,13 @@ part_length (x ∷ xs) (y ∷ ys) p q h =
     omega arith
 
 -- ONE NOTE of a tablet and number
-pub one_note : (l : List Note) → Rising l → (x y : Note) → In x l → In y l → x.tablet ≡ y.tablet → x.number ≡ y.number → x ≡ y
-one_note l r x y (here e) (here d) t n = e ∙ sym d
-one_note (z ∷ l) r x y (here e) (there j) t n =
+one_in : (x y : Note) (l : List Note) → Rising l → In x l → In y l → x.tablet ≡ y.tablet → x.number ≡ y.number → x ≡ y
+one_in x y l r (here e) (here d) t n = e ∙ sym d
+one_in x y (z ∷ l) r (here e) (there j) t n =
     absurd (before_same x y (ap (λ (a : Note). order_of a y) e ∙ r.0 y j) t n)
-one_note (z ∷ l) r x y (there i) (here d) t n =
+one_in x y (z ∷ l) r (there i) (here d) t n =
     absurd (before_same y x (ap (λ (a : Note). order_of a x) d ∙ r.0 x i) (sym t) (sym n))
-one_note (z ∷ l) r x y (there i) (there j) t n = one_note l r.1 x y i j t n
+one_in x y (z ∷ l) r (there i) (there j) t n = one_in x y l r.1 i j t n
+
+pub one_note : (l : List Note) → Rising l → (x y : Note) → In x l → In y l → x.tablet ≡ y.tablet → x.number ≡ y.number → x ≡ y
+one_note l r x y i j = one_in x y l r i j
