@@ -53,6 +53,7 @@ done_print f g n e = rw e
 -- each note of the union is of one of the two, and so fits its places
 pub of_each : (l : List Note) → Each l → (x : Note) → In x l → Ranges x
 unfolding Each
+of_each [] r x i = elim i [ ]
 of_each (y ∷ l) r x (here e) = subst Ranges (sym e) r.0
 of_each (y ∷ l) r x (there i) = of_each l r.1 x i
 
