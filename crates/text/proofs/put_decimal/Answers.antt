@@ -22,8 +22,8 @@ fewer : (m i : ℕ) → 1 ≤ i → m < 10 * 10 ^ i → m / 10 < 10 * 10 ^ (i - 
 fewer m zero h k = absurd (omega arith)
 fewer m (suc i) h k = let e : suc i - 1 ≡ i = omega arith in rw e (omega (arith, rw pow-suc at k))
 
-drop-set : (l : List ℕ) (i x : ℕ) → i < length l → drop i (set l i x) ≡ x ∷ drop (i + 1) l
-drop-set l i x h =
+drop_set : (l : List ℕ) (i x : ℕ) → i < length l → drop i (set l i x) ≡ x ∷ drop (i + 1) l
+drop_set l i x h =
     let k : i < length (set l i x) = simp length-set h in
     rw (add-one, drop-cons (set l i x) i 0 k, get_or-set_same l i x 0 h, drop-set-lt (suc i) l i x (omega arith))
 
@@ -32,11 +32,11 @@ turned : (n m i : ℕ) (l : List ℕ) (x : ℕ) → 10 ≤ m → 1 ≤ i → i <
     → decimal_of n ≡ decimal_of m ++ drop (i + 1) l → decimal_of n ≡ decimal_of (m / 10) ++ drop (i - 1 + 1) (set l i x)
 turned n m i l x h h₁ h₂ e f =
     let z : i - 1 + 1 ≡ i = omega arith in
-    rw (z, drop-set l i x h₂, e) (f ∙ rw (decimal_more m h, append_assoc))
+    rw (z, drop_set l i x h₂, e) (f ∙ rw (decimal_more m h, append_assoc))
 
 ended : (n m i : ℕ) (l : List ℕ) (x : ℕ) → m < 10 → i < length l → x ≡ m % 10 + 48
     → decimal_of n ≡ decimal_of m ++ drop (i + 1) l → drop i (set l i x) ≡ decimal_of n
-ended n m i l x h h₁ e f = let z : m % 10 + 48 ≡ m + 48 = omega arith in rw (drop-set l i x h₁, e, z) (sym (f ∙ rw (decimal_small m h)))
+ended n m i l x h h₁ e f = let z : m % 10 + 48 ≡ m + 48 = omega arith in rw (drop_set l i x h₁, e, z) (sym (f ∙ rw (decimal_small m h)))
 
 pub loop-m-init : goal.loop-m-init
 loop-m-init c = (omega arith, refl, omega arith, sym (append-nil _))
