@@ -1,8 +1,8 @@
 -- Laws of books in arrays, which the callers of `shelf` cite. Assumes nothing.
---     taken-all    where a list has at most 256 notes, as many of what was taken are the list
---     bad-taken    the first bad record, told from what was taken, is the list's
---     book-fits    a list without a bad record has at most 256 notes.        book-taken    so what was taken of it is all of it
---     shelf-..     how many notes a run of puts leaves, and which
+--     taken_all    where a list has at most 256 notes, as many of what was taken are the list
+--     bad_taken    the first bad record, told from what was taken, is the list's
+--     book_fits    a list without a bad record has at most 256 notes.        book_taken    so what was taken of it is all of it
+--     shelf_..     how many notes a run of puts leaves, and which
 use mathlib.Core.Path.{◌≡◌, refl, sym, ◌∙◌, ap}
 use mathlib.Core.Bool.{Bool, true, false, cond}
 use mathlib.Core.List.{List, [], ◌∷◌, ◌++◌, append-nil}

@@ -1,7 +1,7 @@
 -- What the callers of `shelf` cite, and its own proofs. Assumes nothing.
 --     get_d_in      inside the list it does not matter what is said past the end.        get_d_past    past the end
---     mixed-none   nothing is laid.        mixed-more      one element more is laid, of those below both lengths
---     mixed-length the length is that of the list laid into
+--     mixed_none   nothing is laid.        mixed_more      one element more is laid, of those below both lengths
+--     mixed_length the length is that of the list laid into
 use mathlib.Core.Path.{◌≡◌, refl, sym, ◌∙◌, ap}
 use mathlib.Core.List.{List, [], ◌∷◌, ◌++◌}
 use Prim.Native.Nat.{ℕ, zero, suc, ◌+◌, ◌-◌, ◌≤◌, ◌<◌}

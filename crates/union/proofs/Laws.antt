@@ -1,8 +1,8 @@
 -- What the proofs of `union` cite. Assumes nothing.
---     aside-..         two lists side by side, by what each begins with
---     pick_second, pick_first, pick-by     which note comes next, by what is left.        pick-told    the last with the order known
+--     aside_..         two lists side by side, by what each begins with
+--     pick_second, pick_first, pick_by_lem     which note comes next, by what is left.        pick_told    the last with the order known
 --     step             a turn: what is left of the two lists side by side is the pair picked and what is left after it
---     lowest-..        the lowest clash, by the pair that comes next.        filled-..     what a run of notes put leaves
+--     lowest_..        the lowest clash, by the pair that comes next.        filled_..     what a run of notes put leaves
 use mathlib.Core.Path.{◌≡◌, refl, sym, ◌∙◌, ap, subst}
 use mathlib.Core.Bool.{Bool, true, false}
 use mathlib.Core.List.{List, [], ◌∷◌}
