@@ -3,8 +3,8 @@
 // and two texts that are books: the outcome in numbers and, where it is done, the text of the notes.
 #![tactic(auto)]
 
-use libc::{STDIN_FILENO, STDOUT_FILENO};
 use shelf::Answer;
+use std::io::Read;
 use text::{Number, lines};
 
 // Two texts in hex, the word and the places.
@@ -18,51 +18,51 @@ fn size_of(s: &[u8]) -> usize {
 }
 
 // Prints bytes in hex.
-fn print_hex(v: &[u8]) {
+fn print_hex(rt: &impl Print, v: &[u8]) {
     let mut line = [0u8; 2 * handed::BOOK_ROOM];
     let n = text::put_hex(&mut line, 0, v);
-    io::write_all(STDOUT_FILENO, wire::part(&line, 0, n));
+    console::say(rt, wire::part(&line, 0, n));
 }
 
-fn print_number(n: u32) {
+fn print_number(rt: &impl Print, n: u32) {
     let mut digits = [0u8; 10];
     let k = text::put_decimal(&mut digits, 0, n);
-    io::write_all(STDOUT_FILENO, wire::part(&digits, 0, k));
+    console::say(rt, wire::part(&digits, 0, k));
 }
 
-fn print_tab() {
-    io::write_all(STDOUT_FILENO, b"\t");
+fn print_tab(rt: &impl Print) {
+    console::say(rt, b"\t");
 }
 
 // The notes of an answer as text.
-fn print_text(r: Answer) {
+fn print_text(rt: &impl Print, r: Answer) {
     let mut out = [0u8; handed::BOOK_ROOM];
     let n = booktext::put_lines(&mut out, shelf::notes_in(r), shelf::count_in(r));
-    print_hex(wire::part(&out, 0, n));
+    print_hex(rt, wire::part(&out, 0, n));
 }
 
-fn print_answer(r: Answer) {
+fn print_answer(rt: &impl Print, r: Answer) {
     let o = shelf::numbers(shelf::outcome_in(r));
-    print_number(o.number as u32);
-    print_tab();
-    print_number(o.which as u32);
-    print_tab();
-    print_number(o.at as u32);
-    print_tab();
-    print_number(o.count);
+    print_number(rt, o.number as u32);
+    print_tab(rt);
+    print_number(rt, o.which as u32);
+    print_tab(rt);
+    print_number(rt, o.at as u32);
+    print_tab(rt);
+    print_number(rt, o.count);
     if o.number == 0 {
-        print_tab();
-        print_text(r);
+        print_tab(rt);
+        print_text(rt, r);
     }
 }
 
-fn run_handed(first: &[u8], second: &[u8]) {
+fn run_handed(rt: &impl Print, first: &[u8], second: &[u8]) {
     let mut out = [0u8; handed::BOOK_ROOM];
     let n = handed::handed(first, second, &mut out);
-    print_hex(wire::part(&out, 0, n));
+    print_hex(rt, wire::part(&out, 0, n));
 }
 
-fn run_join(places: usize, first: &[u8], second: &[u8]) {
+fn run_join(rt: &impl Print, places: usize, first: &[u8], second: &[u8]) {
     let a = booktext::read_text(first);
     let b = booktext::read_text(second);
     let r = union::joined(
@@ -72,15 +72,15 @@ fn run_join(places: usize, first: &[u8], second: &[u8]) {
         shelf::count_in(b),
         places,
     );
-    print_answer(r);
+    print_answer(rt, r);
 }
 
-fn run_read(places: usize, s: &[u8]) {
-    print_answer(booktext::roomy(booktext::read_text(s), places));
+fn run_read(rt: &impl Print, places: usize, s: &[u8]) {
+    print_answer(rt, booktext::roomy(booktext::read_text(s), places));
 }
 
 // The two texts of a case, parted by a tab; where there is one, the second is empty.
-fn run_two(word: u8, places: usize, texts: &[u8]) {
+fn run_two(rt: &impl Print, word: u8, places: usize, texts: &[u8]) {
     let mut first = [0u8; handed::BOOK_ROOM];
     let n = text::unhex(lines::head_to(texts, lines::TAB), &mut first, 0);
     let mut second = [0u8; handed::BOOK_ROOM];
@@ -88,43 +88,44 @@ fn run_two(word: u8, places: usize, texts: &[u8]) {
     let a = wire::part(&first, 0, n);
     let b = wire::part(&second, 0, m);
     match word {
-        b'h' => run_handed(a, b),
-        b'j' => run_join(places, a, b),
-        b'r' => run_read(places, a),
+        b'h' => run_handed(rt, a, b),
+        b'j' => run_join(rt, places, a, b),
+        b'r' => run_read(rt, places, a),
         _ => {}
     }
 }
 
 // After the word, `read` and `join` have the places.
-fn run_case(case: &[u8]) {
+fn run_case(rt: &impl Print, case: &[u8]) {
     let word = wire::get8(case, 0);
     let values = lines::tail_after(case, lines::TAB);
     if word == b'h' {
-        run_two(word, 0, values);
+        run_two(rt, word, 0, values);
     } else {
         run_two(
+            rt,
             word,
             size_of(lines::head_to(values, lines::TAB)),
             lines::tail_after(values, lines::TAB),
         );
     }
-    io::write_all(STDOUT_FILENO, b"\n");
+    console::say(rt, b"\n");
 }
 
 // A byte of standard input: it ends the case in hand, of which n bytes are held, or belongs to it.
-fn take_byte(b: u8, case: &mut [u8], n: usize) -> usize {
+fn take_byte(rt: &impl Print, b: u8, case: &mut [u8], n: usize) -> usize {
     if b == lines::LINE_FEED {
-        run_case(wire::part(case, 0, n));
+        run_case(rt, wire::part(case, 0, n));
         return 0;
     }
     wire::put8(case, n, b)
 }
 
-fn take_bytes(bytes: &[u8], case: &mut [u8], n: usize) -> usize {
+fn take_bytes(rt: &impl Print, bytes: &[u8], case: &mut [u8], n: usize) -> usize {
     let mut m = n;
     let mut i = 0;
     while i < bytes.len() {
-        m = take_byte(bytes[i], case, m);
+        m = take_byte(rt, bytes[i], case, m);
         i += 1;
     }
     m
@@ -137,21 +138,21 @@ struct Held {
     ended: bool,
 }
 
-fn read_some(case: &mut [u8], length: usize) -> Held {
-    let mut bytes = io::large_buffer();
-    let n = io::read_full(STDIN_FILENO, &mut bytes);
+fn read_some(rt: &impl Print, from: &mut impl Read, case: &mut [u8], length: usize) -> Held {
+    let mut bytes = [0u8; console::READ_ROOM];
+    let n = console::read_full(from, &mut bytes);
     Held {
-        length: take_bytes(&bytes[..n], case, length),
+        length: take_bytes(rt, &bytes[..n], case, length),
         ended: n == 0,
     }
 }
 
 // Nothing says that the input ends, so the turns are counted, from a number that no run uses up.
-fn run(case: &mut [u8]) {
+fn run(rt: &impl Print, from: &mut impl Read, case: &mut [u8]) {
     let mut n = 0;
     let mut turns = u64::MAX;
     while turns > 0 {
-        let held = read_some(case, n);
+        let held = read_some(rt, from, case, n);
         if held.ended {
             return;
         }
@@ -160,7 +161,7 @@ fn run(case: &mut [u8]) {
     }
 }
 
-fn main() {
+fn main(rt: HostRuntime) {
     let mut case = [0u8; CASE_ROOM];
-    run(&mut case);
+    run(&rt, &mut rt.stdin(), &mut case);
 }
