@@ -6,50 +6,42 @@
 
 ghost use Rattle.std.specs.Prelude.{◌+◌, ◌≤◌, ◌<◌, length};
 
+use console::{say, say_number};
 use fields::{Step, Times};
-use libc::{STDIN_FILENO, STDOUT_FILENO};
 use sent::Places;
 
 // The tag that is looked up and written.
 const TAG: u8 = 0x10;
-
-fn say(s: &[u8]) {
-    io::write_all(STDOUT_FILENO, s);
-}
-
-fn say_number(n: usize) {
-    io::print_decimal(STDOUT_FILENO, n as u64);
-}
 
 fn glyph(x: u8) -> u8 {
     let y = x % 16;
     if y < 10 { y + 48 } else { y + 55 }
 }
 
-fn say_byte(x: u8) {
+fn say_byte(rt: &impl Print, x: u8) {
     let two = [glyph(x / 16), glyph(x)];
-    say(&two);
+    say(rt, &two);
 }
 
-fn say_hex(s: &[u8]) {
+fn say_hex(rt: &impl Print, s: &[u8]) {
     let mut i = 0;
     while i < s.len() {
-        say_byte(s[i]);
+        say_byte(rt, s[i]);
         i += 1;
     }
 }
 
 // A field: tag, place of the value, length.
-fn say_field(tag: u8, start: usize, len: usize) {
-    say_byte(tag);
-    say(b"@");
-    say_number(start);
-    say(b"+");
-    say_number(len);
-    say(b" ");
+fn say_field(rt: &impl Print, tag: u8, start: usize, len: usize) {
+    say_byte(rt, tag);
+    say(rt, b"@");
+    say_number(rt, start);
+    say(rt, b"+");
+    say_number(rt, len);
+    say(rt, b" ");
 }
 
-fn say_fields(p: &[u8]) {
+fn say_fields(rt: &impl Print, p: &[u8]) {
     let mut at: usize = 0;
     loop {
         match fields::step_at(p, at) {
@@ -59,7 +51,7 @@ fn say_fields(p: &[u8]) {
                 len,
                 next,
             } => {
-                say_field(tag, start, len);
+                say_field(rt, tag, start, len);
                 at = next;
             }
             Step::Bad => {
@@ -72,41 +64,41 @@ fn say_fields(p: &[u8]) {
     }
 }
 
-fn say_value(p: &[u8], at: &Places) {
-    say_hex(sent::value(p, at, TAG));
-    say(b"\n");
+fn say_value(rt: &impl Print, p: &[u8], at: &Places) {
+    say_hex(rt, sent::value(p, at, TAG));
+    say(rt, b"\n");
 }
 
-fn say_lookup(p: &[u8], at: &Places) {
+fn say_lookup(rt: &impl Print, p: &[u8], at: &Places) {
     match sent::stands(p, at, TAG) {
         Times::Absent => {
-            say(b";10 absent\n");
+            say(rt, b";10 absent\n");
         }
         Times::Once => {
-            say(b";10=");
-            say_value(p, at);
+            say(rt, b";10=");
+            say_value(rt, p, at);
         }
         Times::Twice => {
-            say(b";10 twice=");
-            say_value(p, at);
+            say(rt, b";10 twice=");
+            say_value(rt, p, at);
         }
     }
 }
 
-fn report(p: &[u8]) {
+fn report(rt: &impl Print, p: &[u8]) {
     let mut at = sent::none();
     if sent::fill(p, &mut at) {
-        say_fields(p);
-        say_lookup(p, &at);
+        say_fields(rt, p);
+        say_lookup(rt, p, &at);
     } else {
-        say(b"malformed\n");
+        say(rt, b"malformed\n");
     }
 }
 
-fn report_cuts(p: &[u8]) {
+fn report_cuts(rt: &impl Print, p: &[u8]) {
     let mut n = 0;
     while n <= p.len() {
-        report(wire::part(p, 0, n));
+        report(rt, wire::part(p, 0, n));
         n += 1;
     }
 }
@@ -120,28 +112,28 @@ fn between(s: &[u8], a: usize, e: usize) -> &[u8] {
     }
 }
 
-fn say_back(p: &[u8], v: &[u8]) {
+fn say_back(rt: &impl Print, p: &[u8], v: &[u8]) {
     let mut at = sent::none();
     sent::fill(p, &mut at);
     if sent::holds(p, &at, TAG, v) {
-        say(b" same");
+        say(rt, b" same");
     } else if sent::has(p, &at, TAG) {
-        say(b" other");
+        say(rt, b" other");
     } else {
-        say(b" absent");
+        say(rt, b" absent");
     }
 }
 
 // The place after the write from place 1 on, the first bytes, the value read back, and whether what stands after is untouched.
-fn report_write(out: &[u8], next: usize, v: &[u8]) {
-    say_number(next);
-    say(b" ");
-    say_hex(wire::part(out, 0, 6));
-    say_back(between(out, 1, next), v);
+fn report_write(rt: &impl Print, out: &[u8], next: usize, v: &[u8]) {
+    say_number(rt, next);
+    say(rt, b" ");
+    say_hex(rt, wire::part(out, 0, 6));
+    say_back(rt, between(out, 1, next), v);
     if wire::zero_from(out, next) {
-        say(b" clean\n");
+        say(rt, b" clean\n");
     } else {
-        say(b" beyond\n");
+        say(rt, b" beyond\n");
     }
 }
 
@@ -153,12 +145,12 @@ fn put_within(out: &mut [u8], size: usize, v: &[u8]) -> usize {
     0
 }
 
-fn write_case(len: usize, size: usize) {
+fn write_case(rt: &impl Print, len: usize, size: usize) {
     let value = [0x5Au8; 65536];
     let mut out = [0u8; 65552];
     let v = wire::part(&value, 0, len);
     let next = put_within(&mut out, size, v);
-    report_write(&out, next, v);
+    report_write(rt, &out, next, v);
 }
 
 fn digit(c: u8) -> u8
@@ -202,59 +194,59 @@ fn decode(line: &[u8], out: &mut [u8]) -> usize {
     1024
 }
 
-fn payload_line(line: &[u8]) {
+fn payload_line(rt: &impl Print, line: &[u8]) {
     let mut p = [0u8; 1024];
     let n = decode(line, &mut p);
-    report(wire::part(&p, 0, n));
+    report(rt, wire::part(&p, 0, n));
 }
 
-fn cut_line(line: &[u8]) {
+fn cut_line(rt: &impl Print, line: &[u8]) {
     let mut p = [0u8; 1024];
     let n = decode(line, &mut p);
-    report_cuts(wire::part(&p, 0, n));
+    report_cuts(rt, wire::part(&p, 0, n));
 }
 
-fn write_line(line: &[u8]) {
+fn write_line(rt: &impl Print, line: &[u8]) {
     let mut p = [0u8; 1024];
     decode(line, &mut p);
-    write_case(wire::get32(&p, 0) as usize, wire::get32(&p, 4) as usize);
+    write_case(rt, wire::get32(&p, 0) as usize, wire::get32(&p, 4) as usize);
 }
 
-fn case_line(line: &[u8]) {
+fn case_line(rt: &impl Print, line: &[u8]) {
     if line.len() == 0 {
-        report(line);
+        report(rt, line);
         return;
     }
     match line[0] {
-        b'*' => cut_line(&line[1..]),
-        b'+' => write_line(&line[1..]),
-        _ => payload_line(line),
+        b'*' => cut_line(rt, &line[1..]),
+        b'+' => write_line(rt, &line[1..]),
+        _ => payload_line(rt, line),
     }
 }
 
 // Runs the line that ends at i, if one does, and answers where the line in hand starts.
-fn line_to(text: &[u8], start: usize, i: usize) -> usize
+fn line_to(rt: &impl Print, text: &[u8], start: usize, i: usize) -> usize
     requires { (start ≤ i) × (i < length text.now) }
     ensures { result ≤ i + 1 }
 {
     if text[i] == b'\n' {
-        case_line(&text[start..i]);
+        case_line(rt, &text[start..i]);
         return i + 1;
     }
     start
 }
 
-fn run_lines(text: &[u8]) {
+fn run_lines(rt: &impl Print, text: &[u8]) {
     let mut start = 0;
     let mut i = 0;
     while i < text.len() {
-        start = line_to(text, start, i);
+        start = line_to(rt, text, start, i);
         i += 1;
     }
 }
 
-fn main() {
-    let mut text = io::large_buffer();
-    let n = io::read_full(STDIN_FILENO, &mut text);
-    run_lines(&text[..n]);
+fn main(rt: HostRuntime) {
+    let mut text = [0u8; console::READ_ROOM];
+    let n = console::read_full(&mut rt.stdin(), &mut text);
+    run_lines(&rt, &text[..n]);
 }
