@@ -5,7 +5,7 @@ ghost use Rattle.std.specs.Prelude.{◌≡◌, ◌&&◌, ◌||◌, not, ◌++◌
 ghost use Rattle.wire.specs.Wire.{verdict, part, put, room, Wrote, pad, num16, num32, be1, be2, be4, alike, all_zero};
 
 // The outcome of a check.
-#[derive(Drop)]
+#[derive(Clone, Copy)]
 pub enum Check {
     Fine,
     Failed,
