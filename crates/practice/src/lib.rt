@@ -203,8 +203,7 @@ pub fn settle(
     response: &mut [u8],
     next: &mut [u8],
 ) -> Outcome
-    ensures { settled_by result response.new next.new
-        ≡ settled (holding image.now)
+    ensures { settled_by result response.new next.new ≡ settled (holding image.now)
         (settle_call request.now draw.now answers.now response.old next.old) }
 {
     let Check::Fine = image::is_card(image) else {
@@ -265,8 +264,8 @@ fn ask_card(img: &[u8], request: &[u8], draw: &[u8], questions: &mut [u8]) -> Ou
 
 // Takes an image, a request and a draw; writes the questions for the crypto provider.
 pub fn ask(image: &[u8], request: &[u8], draw: &[u8], questions: &mut [u8]) -> Outcome
-    ensures { posed_by result questions.new
-        ≡ asked_for (holding image.now) (ask_call request.now draw.now questions.old) }
+    ensures { posed_by result questions.new ≡ asked_for (holding image.now)
+        (ask_call request.now draw.now questions.old) }
 {
     let Check::Fine = image::is_card(image) else {
         return ending::only(Outcome::NO_CARD);
@@ -293,22 +292,15 @@ pub fn power_off(image: &[u8], next: &mut [u8]) -> Outcome
     ending::switch_off(image, next)
 }
 
-// The C face: the same calls under plain names.
-#[unsafe(no_mangle)]
-pub extern "C" fn practice_ask(
-    image: &[u8],
-    request: &[u8],
-    draw: &[u8],
-    questions: &mut [u8],
-) -> Outcome
+// The C face: the same calls under plain names. `practice_c` exports them.
+pub fn practice_ask(image: &[u8], request: &[u8], draw: &[u8], questions: &mut [u8]) -> Outcome
     ensures { posed_by result questions.new
         ≡ asked_for (holding image.now) (ask_call request.now draw.now questions.old) }
 {
     ask(image, request, draw, questions)
 }
 
-#[unsafe(no_mangle)]
-pub extern "C" fn practice_settle(
+pub fn practice_settle(
     image: &[u8],
     request: &[u8],
     draw: &[u8],
@@ -323,23 +315,20 @@ pub extern "C" fn practice_settle(
     settle(image, request, draw, answers, response, next)
 }
 
-#[unsafe(no_mangle)]
-pub extern "C" fn practice_power_off(image: &[u8], next: &mut [u8]) -> Outcome
+pub fn practice_power_off(image: &[u8], next: &mut [u8]) -> Outcome
     ensures { off_of result next.new ≡ powered_off (holding image.now) next.old }
 {
     power_off(image, next)
 }
 
-#[unsafe(no_mangle)]
-pub extern "C" fn practice_personalise(sheet: &[u8], image: &mut [u8]) -> u32
+pub fn practice_personalise(sheet: &[u8], image: &mut [u8]) -> u32
     ensures { (result ≡ (personalised sheet.now image.old).answer)
         × (image.new ≡ (personalised sheet.now image.old).image) }
 {
     personalise::personalise(sheet, image)
 }
 
-#[unsafe(no_mangle)]
-pub extern "C" fn practice_image_length() -> u32
+pub fn practice_image_length() -> u32
     ensures { result ≡ image_size }
 {
     layout::IMAGE_SIZE as u32
