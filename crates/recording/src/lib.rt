@@ -31,7 +31,7 @@ pub const LINE_ROOM: usize = 2 * manual::RESPONSE_ROOM + 256;
 const FIELD_ROOM: usize = tapline::LONGEST / 2;
 
 // What lasts from line to line: the taps so far and their sums, whether the sheet had a pause, and whether the play has ended.
-#[derive(Drop)]
+#[derive(Clone, Copy)]
 pub struct Play {
     pub taps: u16,
     pub sums: Sums,
