@@ -16,7 +16,7 @@ use text::lines;
 pub const TEXT_ROOM: usize = LONGEST + 1;
 
 // What lasts from byte to byte: the play, the lines of the sheet so far, and how many bytes are held.
-#[derive(Drop)]
+#[derive(Clone, Copy)]
 pub struct Player {
     pub play: Play,
     pub lines: u32,
