@@ -69,25 +69,22 @@ pub fn join(first: &[Note], second: &[Note], joined: &mut [Note]) -> Outcome
     shelf::outcome_in(r)
 }
 
-// The same for C, each outcome in numbers.
-#[unsafe(no_mangle)]
-pub extern "C" fn book_read(text: &[u8], book: &mut [Note]) -> Result
+// The same with each outcome in numbers, as C takes it. `book_c` exports them.
+pub fn book_read(text: &[u8], book: &mut [Note]) -> Result
     ensures { (result ≡ numbers_of (read_of (length book.old) text.now))
         × (book.new ≡ read_into text.now book.old) }
 {
     shelf::numbers(read(text, book))
 }
 
-#[unsafe(no_mangle)]
-pub extern "C" fn book_write(book: &[Note], text: &mut [u8]) -> Result
+pub fn book_write(book: &[Note], text: &mut [u8]) -> Result
     ensures { (result ≡ numbers_of (write_of (length text.old) book.now))
         × (text.new ≡ written_into book.now text.old) }
 {
     shelf::numbers(write(book, text))
 }
 
-#[unsafe(no_mangle)]
-pub extern "C" fn book_join(first: &[Note], second: &[Note], joined: &mut [Note]) -> Result
+pub fn book_join(first: &[Note], second: &[Note], joined: &mut [Note]) -> Result
     ensures { (result ≡ numbers_of (join_of (length joined.old) first.now second.now))
         × (joined.new ≡ joined_into first.now second.now joined.old) }
 {
