@@ -3,8 +3,8 @@
 #![tactic(auto)]
 
 use card::layout::IMAGE_SIZE;
-use libc::{STDIN_FILENO, STDOUT_FILENO};
 use player::{Fed, Player};
+use std::io::Read;
 use text::{Number, lines};
 
 // The recording that is being played, how many bytes of the line in hand there are, whether the input has ended.
@@ -23,26 +23,36 @@ fn held(player: Player, line: usize) -> State {
     }
 }
 
-fn say(s: &[u8]) {
-    io::write_all(STDOUT_FILENO, s);
-}
-
 // What a call printed, and the player after it.
-fn printed(fed: Fed, out: &[u8]) -> Player {
-    say(wire::part(out, 0, fed.length));
+fn printed(rt: &impl Print, fed: Fed, out: &[u8]) -> Player {
+    console::say(rt, wire::part(out, 0, fed.length));
     fed.player
 }
 
-fn feed(p: Player, b: u8, text: &mut [u8], img: &mut [u8], out: &mut [u8]) -> Player {
+fn feed(
+    rt: &impl Print,
+    p: Player,
+    b: u8,
+    text: &mut [u8],
+    img: &mut [u8],
+    out: &mut [u8],
+) -> Player {
     let fed = player::feed(p, b, text, img, out);
-    printed(fed, out)
+    printed(rt, fed, out)
 }
 
-fn feed_text(p: Player, t: &[u8], text: &mut [u8], img: &mut [u8], out: &mut [u8]) -> Player {
+fn feed_text(
+    rt: &impl Print,
+    p: Player,
+    t: &[u8],
+    text: &mut [u8],
+    img: &mut [u8],
+    out: &mut [u8],
+) -> Player {
     let mut q = p;
     let mut i = 0;
     while i < t.len() {
-        q = feed(q, t[i], text, img, out);
+        q = feed(rt, q, t[i], text, img, out);
         i += 1;
     }
     q
@@ -50,6 +60,7 @@ fn feed_text(p: Player, t: &[u8], text: &mut [u8], img: &mut [u8], out: &mut [u8
 
 // The text of a line, with or without a line feed, once and so many times.
 fn feed_once(
+    rt: &impl Print,
     p: Player,
     t: &[u8],
     whole: bool,
@@ -57,14 +68,15 @@ fn feed_once(
     img: &mut [u8],
     out: &mut [u8],
 ) -> Player {
-    let q = feed_text(p, t, text, img, out);
+    let q = feed_text(rt, p, t, text, img, out);
     if whole {
-        return feed(q, lines::LINE_FEED, text, img, out);
+        return feed(rt, q, lines::LINE_FEED, text, img, out);
     }
     q
 }
 
 fn feed_many(
+    rt: &impl Print,
     p: Player,
     t: &[u8],
     whole: bool,
@@ -76,7 +88,7 @@ fn feed_many(
     let mut q = p;
     let mut i: u32 = 0;
     while i < times {
-        q = feed_once(q, t, whole, text, img, out);
+        q = feed_once(rt, q, t, whole, text, img, out);
         i += 1;
     }
     q
@@ -117,22 +129,30 @@ fn text_of(line: &[u8]) -> &[u8] {
 }
 
 // A recording begins; its name is printed.
-fn begin(line: &[u8]) -> Player {
-    say(line);
-    say(b"\n");
+fn begin(rt: &impl Print, line: &[u8]) -> Player {
+    console::say(rt, line);
+    console::say(rt, b"\n");
     player::new()
 }
 
-fn close(p: Player, text: &mut [u8], img: &mut [u8], out: &mut [u8]) -> Player {
+fn close(rt: &impl Print, p: Player, text: &mut [u8], img: &mut [u8], out: &mut [u8]) -> Player {
     let fed = player::close(p, text, img, out);
-    printed(fed, out)
+    printed(rt, fed, out)
 }
 
-fn run_line(p: Player, line: &[u8], text: &mut [u8], img: &mut [u8], out: &mut [u8]) -> Player {
+fn run_line(
+    rt: &impl Print,
+    p: Player,
+    line: &[u8],
+    text: &mut [u8],
+    img: &mut [u8],
+    out: &mut [u8],
+) -> Player {
     match wire::get8(line, 0) {
-        b'C' => begin(line),
-        b'E' => close(p, text, img, out),
+        b'C' => begin(rt, line),
+        b'E' => close(rt, p, text, img, out),
         _ => feed_many(
+            rt,
             p,
             text_of(line),
             is_any(line, b'L', b'N'),
@@ -146,6 +166,7 @@ fn run_line(p: Player, line: &[u8], text: &mut [u8], img: &mut [u8], out: &mut [
 
 // A byte of standard input: it ends the line in hand, or belongs to it.
 fn take_byte(
+    rt: &impl Print,
     b: u8,
     s: State,
     line: &mut [u8],
@@ -156,12 +177,13 @@ fn take_byte(
     let n = s.line;
     let p = s.player;
     if b == lines::LINE_FEED {
-        return held(run_line(p, wire::part(line, 0, n), text, img, out), 0);
+        return held(run_line(rt, p, wire::part(line, 0, n), text, img, out), 0);
     }
     held(p, wire::put8(line, n, b))
 }
 
 fn take_bytes(
+    rt: &impl Print,
     bytes: &[u8],
     s: State,
     line: &mut [u8],
@@ -172,29 +194,44 @@ fn take_bytes(
     let mut t = s;
     let mut i = 0;
     while i < bytes.len() {
-        t = take_byte(bytes[i], t, line, text, img, out);
+        t = take_byte(rt, bytes[i], t, line, text, img, out);
         i += 1;
     }
     t
 }
 
-fn read_some(s: State, line: &mut [u8], text: &mut [u8], img: &mut [u8], out: &mut [u8]) -> State {
-    let mut bytes = io::large_buffer();
-    let n = io::read_full(STDIN_FILENO, &mut bytes);
+fn read_some(
+    rt: &impl Print,
+    from: &mut impl Read,
+    s: State,
+    line: &mut [u8],
+    text: &mut [u8],
+    img: &mut [u8],
+    out: &mut [u8],
+) -> State {
+    let mut bytes = [0u8; console::READ_ROOM];
+    let n = console::read_full(from, &mut bytes);
     if n == 0 {
         let mut t = s;
         t.ended = true;
         return t;
     }
-    take_bytes(&bytes[..n], s, line, text, img, out)
+    take_bytes(rt, &bytes[..n], s, line, text, img, out)
 }
 
 // Nothing says that the input ends, so the turns are counted, from a number that no run uses up.
-fn run(line: &mut [u8], text: &mut [u8], img: &mut [u8], out: &mut [u8]) {
+fn run(
+    rt: &impl Print,
+    from: &mut impl Read,
+    line: &mut [u8],
+    text: &mut [u8],
+    img: &mut [u8],
+    out: &mut [u8],
+) {
     let mut s = held(player::new(), 0);
     let mut turns = u64::MAX;
     while turns > 0 {
-        s = read_some(s, line, text, img, out);
+        s = read_some(rt, from, s, line, text, img, out);
         let ended = s.ended;
         if ended {
             return;
@@ -203,10 +240,17 @@ fn run(line: &mut [u8], text: &mut [u8], img: &mut [u8], out: &mut [u8]) {
     }
 }
 
-fn main() {
+fn main(rt: HostRuntime) {
     let mut line = [0u8; 8300];
     let mut text = [0u8; player::TEXT_ROOM];
     let mut img = [0u8; IMAGE_SIZE];
     let mut out = [0u8; recording::LINE_ROOM];
-    run(&mut line, &mut text, &mut img, &mut out);
+    run(
+        &rt,
+        &mut rt.stdin(),
+        &mut line,
+        &mut text,
+        &mut img,
+        &mut out,
+    );
 }
