@@ -7,10 +7,13 @@ mod print;
 mod state;
 
 use card::layout::IMAGE_SIZE;
-use libc::STDIN_FILENO;
 use manual::Outcome;
 use state::State;
+use std::io::Read;
 use text::lines;
+
+// The most bytes of an image that are held.
+const CARD_ROOM: usize = 4096;
 
 // The fields of a line after its letter.
 fn first(line: &[u8]) -> &[u8] {
@@ -72,17 +75,18 @@ fn ask_within(
     practice::ask(img, request, draw, questions)
 }
 
-fn ask(img: &[u8], request: &[u8], draw: &[u8], size: usize) {
+fn ask(rt: &impl Print, img: &[u8], request: &[u8], draw: &[u8], size: usize) {
     let mut questions = [print::FILL; 8192];
     let o = ask_within(img, request, draw, &mut questions, size);
-    print::asked(o, &questions);
+    print::asked(rt, &o, &questions);
 }
 
-fn ask_line(line: &[u8], img: &[u8], s: State) -> State {
+fn ask_line(rt: &impl Print, line: &[u8], img: &[u8], s: State) -> State {
     let mut bytes = [0u8; 8192];
     let a = text::unhex(first(line), &mut bytes, 0);
     let b = text::unhex(second(line), &mut bytes, a);
     ask(
+        rt,
         wire::part(img, 0, s.image),
         between(&bytes, 0, a),
         between(&bytes, a, b),
@@ -127,12 +131,19 @@ fn renewed(o: Outcome, next: &[u8], img: &mut [u8], s: State) -> State {
     s
 }
 
-fn settle(img: &mut [u8], request: &[u8], draw: &[u8], answers: &[u8], s: State) -> State {
+fn settle(
+    rt: &impl Print,
+    img: &mut [u8],
+    request: &[u8],
+    draw: &[u8],
+    answers: &[u8],
+    s: State,
+) -> State {
     let mut response = [print::FILL; 8192];
     let mut next = [print::FILL; 8192];
     let old = wire::part(img, 0, s.image);
     let o = settle_within(old, request, draw, answers, &mut response, &mut next, s);
-    print::settled(o, old, &response, &next);
+    print::settled(rt, &o, old, &response, &next);
     renewed(o, &next, img, s)
 }
 
@@ -144,20 +155,21 @@ fn off_within(img: &[u8], next: &mut [u8], size: usize) -> Outcome {
     practice::power_off(img, next)
 }
 
-fn off_line(img: &mut [u8], s: State) -> State {
+fn off_line(rt: &impl Print, img: &mut [u8], s: State) -> State {
     let mut next = [print::FILL; 8192];
     let old = wire::part(img, 0, s.image);
     let o = off_within(old, &mut next, s.next);
-    print::powered_off(o, old, &next);
+    print::powered_off(rt, &o, old, &next);
     renewed(o, &next, img, s)
 }
 
-fn settle_line(line: &[u8], img: &mut [u8], s: State) -> State {
+fn settle_line(rt: &impl Print, line: &[u8], img: &mut [u8], s: State) -> State {
     let mut bytes = [0u8; 8192];
     let a = text::unhex(first(line), &mut bytes, 0);
     let b = text::unhex(second(line), &mut bytes, a);
     let c = text::unhex(third(line), &mut bytes, b);
     settle(
+        rt,
         img,
         between(&bytes, 0, a),
         between(&bytes, a, b),
@@ -166,7 +178,7 @@ fn settle_line(line: &[u8], img: &mut [u8], s: State) -> State {
     )
 }
 
-fn run_line(line: &[u8], img: &mut [u8], s: State) -> State {
+fn run_line(rt: &impl Print, line: &[u8], img: &mut [u8], s: State) -> State {
     match wire::get8(line, 0) {
         b'I' => {
             return image_line(line, img, s);
@@ -178,57 +190,63 @@ fn run_line(line: &[u8], img: &mut [u8], s: State) -> State {
             return lend_line(line, s);
         }
         b'A' => {
-            return ask_line(line, img, s);
+            return ask_line(rt, line, img, s);
         }
         b'S' => {
-            return settle_line(line, img, s);
+            return settle_line(rt, line, img, s);
         }
         b'O' => {
-            return off_line(img, s);
+            return off_line(rt, img, s);
         }
         _ => {
-            print::same(line);
+            print::same(rt, line);
             return s;
         }
     }
 }
 
 // A byte of standard input: it ends the line in hand, or belongs to it.
-fn take_byte(b: u8, line: &mut [u8], img: &mut [u8], s: State) -> State {
+fn take_byte(rt: &impl Print, b: u8, line: &mut [u8], img: &mut [u8], s: State) -> State {
     let n = s.line;
     if b == lines::LINE_FEED {
-        return run_line(wire::part(line, 0, n), img, s.with_line(0));
+        return run_line(rt, wire::part(line, 0, n), img, s.with_line(0));
     }
     s.with_line(wire::put8(line, n, b))
 }
 
-fn take_bytes(bytes: &[u8], line: &mut [u8], img: &mut [u8], s: State) -> State {
+fn take_bytes(rt: &impl Print, bytes: &[u8], line: &mut [u8], img: &mut [u8], s: State) -> State {
     let mut t = s;
     let mut i = 0;
     while i < bytes.len() {
-        t = take_byte(bytes[i], line, img, t);
+        t = take_byte(rt, bytes[i], line, img, t);
         i += 1;
     }
     t
 }
 
-fn read_some(line: &mut [u8], img: &mut [u8], s: State) -> State {
-    let mut bytes = io::large_buffer();
-    let n = io::read_full(STDIN_FILENO, &mut bytes);
+fn read_some(
+    rt: &impl Print,
+    from: &mut impl Read,
+    line: &mut [u8],
+    img: &mut [u8],
+    s: State,
+) -> State {
+    let mut bytes = [0u8; console::READ_ROOM];
+    let n = console::read_full(from, &mut bytes);
     if n == 0 {
         let mut t = s;
         t.ended = true;
         return t;
     }
-    take_bytes(&bytes[..n], line, img, s)
+    take_bytes(rt, &bytes[..n], line, img, s)
 }
 
 // Nothing says that the input ends, so the turns are counted, from a number that no run uses up.
-fn run(line: &mut [u8], img: &mut [u8]) {
+fn run(rt: &impl Print, from: &mut impl Read, line: &mut [u8], img: &mut [u8]) {
     let mut s = State::new();
     let mut turns = u64::MAX;
     while turns > 0 {
-        s = read_some(line, img, s);
+        s = read_some(rt, from, line, img, s);
         let ended = s.ended;
         if ended {
             return;
@@ -237,8 +255,8 @@ fn run(line: &mut [u8], img: &mut [u8]) {
     }
 }
 
-fn main() {
+fn main(rt: HostRuntime) {
     let mut line = [0u8; 8192];
-    let mut img = io::buffer();
-    run(&mut line, &mut img);
+    let mut img = [0u8; CARD_ROOM];
+    run(&rt, &mut rt.stdin(), &mut line, &mut img);
 }

@@ -1,20 +1,16 @@
 // What taps prints, a line at a time, tests/README.md "The lines of taps".
 use card::layout::IMAGE_SIZE;
-use libc::STDOUT_FILENO;
+use console::say;
 use manual::Outcome;
 use text::lines;
 
 // Every byte of a buffer before it is lent.
 pub const FILL: u8 = 0xAA;
 
-fn say(s: &[u8]) {
-    io::write_all(STDOUT_FILENO, s);
-}
-
 // A line as it is.
-pub fn same(line: &[u8]) {
-    say(line);
-    say(b"\n");
+pub fn same(rt: &impl Print, line: &[u8]) {
+    say(rt, line);
+    say(rt, b"\n");
 }
 
 fn put_word(out: &mut [u8], at: usize, x: u16) -> usize {
@@ -33,7 +29,7 @@ fn put_bytes(out: &mut [u8], at: usize, v: &[u8]) -> usize {
     text::put_hex(out, a, v)
 }
 
-fn put_outcome(out: &mut [u8], letter: u8, o: Outcome) -> usize {
+fn put_outcome(out: &mut [u8], letter: u8, o: &Outcome) -> usize {
     let a = wire::put8(out, 0, letter);
     let b = put_number(out, a, wire::wide(o.number));
     let c = put_number(out, b, wire::wide(o.reason));
@@ -43,7 +39,7 @@ fn put_outcome(out: &mut [u8], letter: u8, o: Outcome) -> usize {
 }
 
 // Of so many bytes, how many are written: none where the call ended with a number.
-fn written(o: Outcome, n: usize) -> usize {
+fn written(o: &Outcome, n: usize) -> usize {
     if o.number == 0 { n } else { 0 }
 }
 
@@ -60,21 +56,21 @@ fn untouched(s: &[u8], at: usize) -> bool {
 }
 
 // Writes the line, and a line T where what was not to be written is not as it was lent.
-fn finish(out: &[u8], end: usize, clean: bool) {
-    say(wire::part(out, 0, end));
+fn finish(rt: &impl Print, out: &[u8], end: usize, clean: bool) {
+    say(rt, wire::part(out, 0, end));
     if clean {
-        say(b"\n");
+        say(rt, b"\n");
     } else {
-        say(b"\nT\n");
+        say(rt, b"\nT\n");
     }
 }
 
-pub fn asked(o: Outcome, questions: &[u8]) {
+pub fn asked(rt: &impl Print, o: &Outcome, questions: &[u8]) {
     let mut out = [0u8; 16384];
     let n = written(o, o.length as usize);
     let a = put_outcome(&mut out, b'A', o);
     let b = put_bytes(&mut out, a, wire::part(questions, 0, n));
-    finish(&out, b, untouched(questions, n));
+    finish(rt, &out, b, untouched(questions, n));
 }
 
 fn differs(old: &[u8], new: &[u8], i: u16) -> bool {
@@ -132,7 +128,7 @@ fn put_changes(out: &mut [u8], from: usize, old: &[u8], new: &[u8]) -> usize {
     at
 }
 
-fn put_next(out: &mut [u8], at: usize, o: Outcome, old: &[u8], next: &[u8]) -> usize {
+fn put_next(out: &mut [u8], at: usize, o: &Outcome, old: &[u8], next: &[u8]) -> usize {
     let a = wire::put8(out, at, lines::TAB);
     if o.number == 0 {
         return put_changes(out, a, old, next);
@@ -140,24 +136,24 @@ fn put_next(out: &mut [u8], at: usize, o: Outcome, old: &[u8], next: &[u8]) -> u
     a
 }
 
-fn clean(o: Outcome, response: &[u8], next: &[u8]) -> bool {
+fn clean(o: &Outcome, response: &[u8], next: &[u8]) -> bool {
     wire::both(
         untouched(response, written(o, o.length as usize)),
         untouched(next, written(o, IMAGE_SIZE)),
     )
 }
 
-pub fn settled(o: Outcome, old: &[u8], response: &[u8], next: &[u8]) {
+pub fn settled(rt: &impl Print, o: &Outcome, old: &[u8], response: &[u8], next: &[u8]) {
     let mut out = [0u8; 16384];
     let a = put_outcome(&mut out, b'S', o);
     let b = put_bytes(&mut out, a, wire::part(response, 0, o.length as usize));
     let c = put_next(&mut out, b, o, old, next);
-    finish(&out, c, clean(o, response, next));
+    finish(rt, &out, c, clean(o, response, next));
 }
 
-pub fn powered_off(o: Outcome, old: &[u8], next: &[u8]) {
+pub fn powered_off(rt: &impl Print, o: &Outcome, old: &[u8], next: &[u8]) {
     let mut out = [0u8; 16384];
     let a = put_outcome(&mut out, b'O', o);
     let b = put_next(&mut out, a, o, old, next);
-    finish(&out, b, untouched(next, written(o, IMAGE_SIZE)));
+    finish(rt, &out, b, untouched(next, written(o, IMAGE_SIZE)));
 }

@@ -2,7 +2,7 @@
 use card::layout;
 
 // How many bytes of the line and of the image there are, the lengths of the buffers that are lent, whether the input has ended.
-#[derive(Drop)]
+#[derive(Clone, Copy)]
 pub struct State {
     pub line: usize,
     pub image: usize,
