@@ -2,12 +2,10 @@
 // PIN1 and a draw of zeros, or the number of the bad line. What is printed is the promise of `firstanswer`; this reads and writes.
 #![tactic(auto)]
 
-use libc::{STDIN_FILENO, STDOUT_FILENO};
-
-fn main() {
+fn main(rt: HostRuntime) {
     let mut sheet = [0u8; firstanswer::SHEET_ROOM];
-    let n = io::read_full(STDIN_FILENO, &mut sheet);
+    let n = console::read_full(&mut rt.stdin(), &mut sheet);
     let mut line = [0u8; firstanswer::LINE_ROOM];
     let e = firstanswer::answer(wire::part(&sheet, 0, n), &mut line);
-    io::write_all(STDOUT_FILENO, wire::part(&line, 0, e));
+    console::say(&rt, wire::part(&line, 0, e));
 }
