@@ -2,7 +2,6 @@
 // prints what firstread prints.
 #![tactic(auto)]
 
-use libc::{STDIN_FILENO, STDOUT_FILENO};
 use text::lines;
 
 // Two digits for each byte that firstread reads.
@@ -16,24 +15,24 @@ fn front(digits: &[u8]) -> &[u8] {
     wire::part(digits, 0, DIGITS)
 }
 
-fn run_case(digits: &[u8]) {
+fn run_case(rt: &impl Print, digits: &[u8]) {
     let mut sheet = [0u8; firstanswer::SHEET_ROOM];
     let n = text::unhex(front(digits), &mut sheet, 0);
     let mut line = [0u8; firstanswer::LINE_ROOM];
     let e = firstanswer::answer(wire::part(&sheet, 0, n), &mut line);
-    io::write_all(STDOUT_FILENO, wire::part(&line, 0, e));
+    console::say(rt, wire::part(&line, 0, e));
 }
 
-fn run_all(cases: &[u8]) {
+fn run_all(rt: &impl Print, cases: &[u8]) {
     let mut at = 0;
     while at < cases.len() {
-        run_case(lines::head_to(wire::rest(cases, at), lines::LINE_FEED));
+        run_case(rt, lines::head_to(wire::rest(cases, at), lines::LINE_FEED));
         at = lines::next_line(cases, at);
     }
 }
 
-fn main() {
+fn main(rt: HostRuntime) {
     let mut input = [0u8; 262144];
-    let n = io::read_full(STDIN_FILENO, &mut input);
-    run_all(&input[..n]);
+    let n = console::read_full(&mut rt.stdin(), &mut input);
+    run_all(&rt, &input[..n]);
 }
