@@ -211,7 +211,7 @@ impl Wallet {
     {
         Wallet {
             status: Wallet::LOADED,
-            number: std::num::wrapping_add_u16(self.number, 1),
+            number: self.number.wrapping_add(1),
             remaining: max,
             signed: self.signed,
         }
@@ -225,7 +225,7 @@ impl Wallet {
             status: self.status,
             number: self.number,
             remaining: less(self.remaining, 1),
-            signed: std::num::wrapping_add_u32(self.signed, hashes),
+            signed: self.signed.wrapping_add(hashes),
         }
     }
 
@@ -268,7 +268,7 @@ fn one_more(n: u32) -> u32
 fn turned(n: u32) -> u32
     ensures { result ≡ u32 (n + 1) }
 {
-    std::num::wrapping_add_u32(n, 1)
+    n.wrapping_add(1)
 }
 
 impl Counters {
@@ -306,7 +306,7 @@ impl Counters {
     {
         Counters {
             checks: self.checks,
-            validations: std::num::wrapping_add_u16(self.validations, 1),
+            validations: self.validations.wrapping_add(1),
             user: self.user,
             protected: self.protected,
         }

@@ -95,7 +95,7 @@ fn whole_wait(cmd: Command, img: &[u8], p: &[u8], places: &Places) -> u8
 {
     let wait = image::wait(img);
     let alone = wait.wrong;
-    let paused = std::num::wrapping_add_u8(alone, image::pause(img));
+    let paused = alone.wrapping_add(image::pause(img));
     if checks::needs_pin2(cmd, p, places) {
         return paused;
     }

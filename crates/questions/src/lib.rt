@@ -111,7 +111,7 @@ fn pose_key(img: &[u8], out: &mut [u8]) -> usize
         out.new result }
 {
     let wallet = image::wallet(img);
-    let number = std::num::wrapping_add_u16(wallet.number, 1);
+    let number = wallet.number.wrapping_add(1);
     put_head(out, 0, MAKE_KEY, number, image::curve(img), 0)
 }
 
@@ -184,7 +184,7 @@ fn pose_validate(img: &[u8], out: &mut [u8]) -> usize
 {
     let wallet = image::wallet(img);
     let counters = image::counters(img);
-    let n = std::num::wrapping_add_u16(counters.validations, 1);
+    let n = counters.validations.wrapping_add(1);
     let risen = [(n / 256) as u8, (n % 256) as u8];
     put_one(
         out,

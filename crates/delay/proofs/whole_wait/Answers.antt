@@ -5,7 +5,7 @@ use Rattle.card.specs.Image.{decode}
 use Rattle.delay.proofs.whole_wait.Goals as goal
 
 pub returns-then-needs_pin2 : goal.returns-then-needs_pin2
-returns-then-needs_pin2 c = rw (sym c.needs_pin2.ensures ∙ c.if-needs_pin2.true) (rw (c.pause.ensures, c.wait-wait.ensures) at c.wrapping_add_u8-paused.ensures.value)
+returns-then-needs_pin2 c = rw (sym c.needs_pin2.ensures ∙ c.if-needs_pin2.true, c.pause.ensures, c.wait-wait.ensures)
 
 pub returns : goal.returns
 unfolding decode

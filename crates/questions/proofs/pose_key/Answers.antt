@@ -6,4 +6,4 @@ use Rattle.questions.proofs.pose_key.Goals as goal
 
 pub returns : goal.returns
 unfolding joined
-returns c = λ v d. ask 1 _ _ 0 [] refl (rw (c.wrapping_add_u16-number.ensures.value, c.wallet-wallet.ensures, c.curve.ensures) at c.put_head.ensures) wrote_none
+returns c = λ v d. ask 1 _ _ 0 [] refl (rw (c.wallet-wallet.ensures, c.curve.ensures) at c.put_head.ensures) wrote_none
