@@ -7,12 +7,12 @@ use mathlib.Core.Logic.{∥∥₁_elim}
 use seplogic.Ra.Ura.{Ura}
 use base.Logic.{id⊢}
 use mir.Syntax.{w8, w16, w32}
-use mir.Val.{Val, Vals, vunit, vbool, vint, vfloat, vptr, vstruct, vnil, vcons, of_list, as_int}
+use mir.Val.{Val, Vals, vunit, vbool, vint, vfloat, vptr, vcode, vstruct, vnil, vcons, of_list, as_int}
 use prog.Model.{Model}
-use ghost.Model as Closed
 use types.Logic.{Logic}
 use contract.Lifetimes.{Lfts}
-use contract.Running.{Running, real}
+use contract.Running.{Running}
+use contract.Closed.{model⁺, real⁺}
 use contract.BorrowModel.{logic₀}
 use denote.Signature.{type_at}
 use denote.Laws.{Is, Fixes}
@@ -20,16 +20,13 @@ use Rattle.manual.specs.declared.Outcome.{Outcome}
 use Rattle.manual.specs.Settle.{holding, ask_call, settle_call, Posed, posed_by, Settled, settled_by, Off, off_of}
 use Rattle.history.specs.Demands.{AnyCard}
 use Rattle.history.proofs.Images.{model}
-use Rattle.computed.specs.Computes.{Computes, asked, settled, turned_off, Sliceable}
+use Rattle.computed.specs.Computes.{Computes, ask_routine, settle_routine, off_routine, asked, settled, turned_off, Sliceable}
 use Rattle.computed.proofs.Meets.{computes_model}
 use Rattle.computed.proofs.Lent.{Passed, shared, lent, lfts_of, wholes, args_of, vals_of}
 use Rattle.computed.proofs.Start.{AllSliceable, laid, agree}
 use Rattle.practice.specs.contracts.practice_ask as ask
-use Rattle.practice.proofs.practice_ask.Symbol as ask_code
 use Rattle.practice.specs.contracts.practice_settle as settle
-use Rattle.practice.proofs.practice_settle.Symbol as settle_code
 use Rattle.practice.specs.contracts.practice_power_off as off
-use Rattle.practice.proofs.practice_power_off.Symbol as off_code
 
 -- a result as the machine has it, and what is read out of that
 abbrev spelt : Outcome → List Val
@@ -42,6 +39,7 @@ fields_of (vbool b ∷ vs) = vnil
 fields_of (vint w n ∷ vs) = vnil
 fields_of (vfloat f x ∷ vs) = vnil
 fields_of (vptr b o ∷ vs) = vnil
+fields_of (vcode c ∷ vs) = vnil
 fields_of (vstruct us ∷ vs) = us
 
 abbrev number_at : ℕ → Vals → ℕ
@@ -119,7 +117,7 @@ module _ {M : Type 1} {𝓤 : Ura M} (𝓛 : Logic 𝓤) (𝓜 : Model 𝓤 𝓛
       → f.taps.ask (holding img) (ask_call q d page) ≡ model.taps.ask (holding img) (ask_call q d page)
   ask_agrees img q d page g =
       let ps : List Passed = laid 0 (ask_slices img q d page) in
-      ∥∥₁_elim (agree 𝓛 𝓜 𝓡 ask.ended ask_code.routine (ask_slices img q d page)
+      ∥∥₁_elim (agree 𝓛 𝓜 𝓡 ask.ended ask_routine (ask_slices img q d page)
       (record {
         bound = λ ξ. (lfts_of ps ξ, wholes ps, tt, args_of 0 ps ξ, vals_of 0 ps ξ);
         ends_at = λ ξ ws. ws;
@@ -133,7 +131,7 @@ module _ {M : Type 1} {𝓤 : Ura M} (𝓛 : Logic 𝓤) (𝓜 : Model 𝓤 𝓛
       → f.taps.settle (holding img) (settle_call q d a out nxt) ≡ model.taps.settle (holding img) (settle_call q d a out nxt)
   settle_agrees img q d a out nxt g =
       let ps : List Passed = laid 0 (settle_slices img q d a out nxt) in
-      ∥∥₁_elim (agree 𝓛 𝓜 𝓡 settle.ended settle_code.routine (settle_slices img q d a out nxt)
+      ∥∥₁_elim (agree 𝓛 𝓜 𝓡 settle.ended settle_routine (settle_slices img q d a out nxt)
       (record {
         bound = λ ξ. (lfts_of ps ξ, wholes ps, tt, args_of 0 ps ξ, vals_of 0 ps ξ);
         ends_at = λ ξ ws. ws;
@@ -146,7 +144,7 @@ module _ {M : Type 1} {𝓤 : Ura M} (𝓛 : Logic 𝓤) (𝓜 : Model 𝓤 𝓛
   off_agrees : (img nxt : List ℕ) → AllSliceable (off_slices img nxt) → f.power_off (holding img) nxt ≡ model.power_off (holding img) nxt
   off_agrees img nxt g =
       let ps : List Passed = laid 0 (off_slices img nxt) in
-      ∥∥₁_elim (agree 𝓛 𝓜 𝓡 off.ended off_code.routine (off_slices img nxt)
+      ∥∥₁_elim (agree 𝓛 𝓜 𝓡 off.ended off_routine (off_slices img nxt)
       (record {
         bound = λ ξ. (lfts_of ps ξ, wholes ps, tt, args_of 0 ps ξ, vals_of 0 ps ξ);
         ends_at = λ ξ ws. ws;
@@ -161,12 +159,12 @@ module _ (f : AnyCard) (h : Computes f) where
   pub ask_is : (img q d page : List ℕ) → Sliceable img → Sliceable q → Sliceable d → Sliceable page
       → f.taps.ask (holding img) (ask_call q d page) ≡ model.taps.ask (holding img) (ask_call q d page)
   ask_is img q d page gi gq gd gp =
-      ask_agrees logic₀ Closed.model (real Closed.𝓤 Closed.H Closed.model) f h img q d page (gi, (gq, (gd, (gp, tt))))
+      ask_agrees logic₀ model⁺ real⁺ f h img q d page (gi, (gq, (gd, (gp, tt))))
 
   pub settle_is : (img q d a out nxt : List ℕ) → Sliceable img → Sliceable q → Sliceable d → Sliceable a → Sliceable out → Sliceable nxt
       → f.taps.settle (holding img) (settle_call q d a out nxt) ≡ model.taps.settle (holding img) (settle_call q d a out nxt)
   settle_is img q d a out nxt gi gq gd ga go gn =
-      settle_agrees logic₀ Closed.model (real Closed.𝓤 Closed.H Closed.model) f h img q d a out nxt (gi, (gq, (gd, (ga, (go, (gn, tt))))))
+      settle_agrees logic₀ model⁺ real⁺ f h img q d a out nxt (gi, (gq, (gd, (ga, (go, (gn, tt))))))
 
   pub off_is : (img nxt : List ℕ) → Sliceable img → Sliceable nxt → f.power_off (holding img) nxt ≡ model.power_off (holding img) nxt
-  off_is img nxt gi gn = off_agrees logic₀ Closed.model (real Closed.𝓤 Closed.H Closed.model) f h img nxt (gi, (gn, tt))
+  off_is img nxt gi gn = off_agrees logic₀ model⁺ real⁺ f h img nxt (gi, (gn, tt))

@@ -14,12 +14,12 @@ use prog.Memory.{Memory}
 use prog.Model.{Model}
 use prog.Adequacy.{guard_r}
 use prog.AdequacyRun.{Holds, run_adq}
-use prog.Routine.{Routine, anyName, ends-one}
+use prog.Routine.{Routine, any_callee, ends-one}
 use types.Logic.{Logic, sem}
 use types.Kit.{‵, raw, ◌⊛◌, later, ◌$◌, ◌∵◌, !, qed, move, keep, split, split3, join, use2, use3, await, updating, now as at_once, done}
 use contract.Monad.{fact, fact_mono}
 use contract.Lifetimes.{Lfts}
-use contract.Running.{Running}
+use contract.Running.{Running, strict}
 use contract.Adequate.{Satisfies, sat_weaken, sat_upd, sat_⇛, sat_ex∗, sat_fact}
 use denote.RattleType.{RattleType}
 use denote.Signature.{type_at}
@@ -168,7 +168,7 @@ module _ {M : Type 1} {𝓤 : Ura M} (𝓛 : Logic 𝓤) (𝓜 : Model 𝓤 𝓛
           let ξ : Fresh ps = q.0 in
           let G : SProp 𝓤 = asides 𝓛 ps ξ ∗ F in
           let runs : (χ : Promise T) → Keeps T χ ρ → ∥ Ends 𝓛 𝓜 𝓡 T χ ρ (t.bound ξ, tt) σ G ∥₁ =
-          λ χ m. ends 𝓛 𝓜 𝓡 T χ ρ anyName (m M 𝓤 𝓛 𝓜 𝓡) (t.bound ξ, tt) σ G (sat_weaken 𝓤 H 𝓜 σ (enter ξ F) q.1) in
+          λ χ m. ends 𝓛 𝓜 𝓡 T χ ρ any_callee (m M 𝓤 𝓛 𝓜 (strict 𝓤 H 𝓜 𝓡)) (t.bound ξ, tt) σ G (sat_weaken 𝓤 H 𝓜 σ (enter ξ F) q.1) in
           ∥∥₁_elim (runs φ k) ∥∥₁_prop (λ r.
           ∥∥₁_elim (runs ψ l) ∥∥₁_prop (λ r'.
           ∥∥₁_elim (seen ξ r.2 r.1 r.3 r.4 F r.7) ∥∥₁_prop (λ h.

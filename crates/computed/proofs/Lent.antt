@@ -5,14 +5,14 @@ use Prim.Native.Nat.{ℕ, suc, ◌+◌}
 use mathlib.Core.List.{List, [], ◌∷◌}
 use lib.ListN.{length}
 use seplogic.Ra.Ura.{Ura}
-use seplogic.Ra.TreeShare.{full_share}
+use base.Fraction.{full_share}
 use mir.Syntax.{named, w8, ty_int}
 use mir.Val.{Val, vint}
-use base.Logic.{SProp, ent, sep, ex, emp, guard, id⊢, via}
-use base.Fml.{Lft, GName, Fml, ftrue, fsep, feq, fat, flft, flent}
+use base.Logic.{SProp, ent, sep, ex, emp, guard, id⊢}
+use base.Fml.{Lft, GName, Incl-refl, Fml, ftrue, fsep, feq, fat, fbor, flft, flent}
 use prog.Wp.{run}
 use types.Logic.{Logic, sem}
-use types.Kit.{‵, raw, ◌⊛◌, some, later, ◌$◌, ◌∵◌, !, qed, by, move, keep, use1, use3, split, join, pick, fsplit, feq_l, feq_i, frame, await, updating}
+use types.Kit.{‵, raw, ◌⊛◌, some, later, ◌$◌, ◌∵◌, !, qed, by, move, keep, drop, use1, use2, use3, split, split3, join, pick, fsplit, feq_l, feq_i, frame, await, updating}
 use types.Kit.{now as at_once, show, check, done}
 use types.Tokens.{lft_new, lft_end}
 use types.SemTy.{cells, Arr}
@@ -22,6 +22,7 @@ use denote.RattleType.{RattleType, Denots, Valss, owns}
 use denote.Memory.{part_at, mem, shares}
 use denote.Plain.{uint_in, uint_out}
 use denote.Builtin.{u8}
+use denote.Copied.{uint_Copied}
 use denote.Slice.{slice_val, MutSlice, ShrSlice, Room, finally}
 use denote.Lend.{Held, lends_slice, slice_back, lends_shr_slice}
 use denote.Steps.{nothing}
@@ -58,7 +59,7 @@ type_of j κ (shared ys b o) = ShrSlice (named j) κ u8
 type_of j κ (lent ys b o) = MutSlice (named j) κ u8
 
 abbrev pub arg_of : (j : ℕ) (κ : Lft) (p : Passed) → GName → (type_of j κ p).Denot
-arg_of j κ (shared ys b o) γ = record { ref_ptr = (b, o); ghost_name = γ; now = ys }
+arg_of j κ (shared ys b o) γ = record { ref_ptr = (b, o); now = ys }
 arg_of j κ (lent ys b o) γ = record { ref_ptr = (b, o); ghost_name = γ; now = ys }
 
 abbrev pub val_of : Passed → List Val
@@ -84,7 +85,7 @@ own_of j p α γ = (type_of j (α ∷ []) p).own_val (arg_of j (α ∷ []) p γ)
 abbrev owns_of : ℕ → (ps : List Passed) → Fresh ps → Fml
 owns_of j ps ξ = owns (types_of j ps ξ) (args_of j ps ξ) (vals_of j ps ξ)
 
--- the last bytes of what is lent by &mut, and what a call says of them
+-- the last bytes of what is lent by &mut, and what a call says of them; its borrow comes with that
 abbrev pub Last : Passed → Type 0
 Last (shared ys b o) = Unit {0}
 Last (lent ys b o) = List ℕ
@@ -93,13 +94,13 @@ abbrev pub Lasts : List Passed → Type 0
 Lasts [] = Unit {0}
 Lasts (p ∷ ps) = Last p × Lasts ps
 
-abbrev pub said_of : (p : Passed) → GName → Last p → Fml
-said_of (shared ys b o) γ w = ftrue
-said_of (lent ys b o) γ w = fsep (finally u8 γ w) (feq ℕ (length w) (length ys))
+abbrev pub said_of : (p : Passed) → ℕ → GName → Last p → Fml
+said_of (shared ys b o) α γ w = ftrue
+said_of (lent ys b o) α γ w = fsep (fsep (finally u8 γ w) (feq ℕ (length w) (length ys))) (fbor (α ∷ []) (Held u8 (length ys) b o γ))
 
 abbrev pub saids_of : (ps : List Passed) → Fresh ps → Lasts ps → Fml
 saids_of [] ξ ws = ftrue
-saids_of (p ∷ ps) ξ ws = fsep (said_of p ξ.0.1 ws.0) (saids_of ps ξ.1 ws.1)
+saids_of (p ∷ ps) ξ ws = fsep (said_of p ξ.0.0 ξ.0.1 ws.0) (saids_of ps ξ.1 ws.1)
 
 -- what the lender is owed
 abbrev owed_of : Passed → GName → Fml
@@ -194,20 +195,32 @@ module _ {M : Type 1} {𝓤 : Ura M} (𝓛 : Logic 𝓤) where
 
       -- before the call: lifetimes are made, and each slice is lent for its own
       abbrev Lent : ℕ → (p : Passed) → ℕ → GName → SProp 𝓤
-      Lent j p α γ = ⟦ own_of j p α γ ⟧ ∗ aside p (α, γ)
+      Lent j p α γ = ⟦ own_of j p α γ ⟧ ∗ aside p (α, γ) ∗ A.lft (α ∷ []) full_share
 
-      lends_one : (j : ℕ) (p : Passed) (α : ℕ) → Roomy p → lies p ⊢ H.⇛ (ex 𝓤 (Lent j p α))
+      -- to share a slice out takes the lifetime's token, which comes back; no ghost name stands for its bytes
+      lends_one : (j : ℕ) (p : Passed) (α : ℕ) → Roomy p → lies p ∗ A.lft (α ∷ []) full_share ⊢ H.⇛ (ex 𝓤 (Lent j p α))
       lends_one j (shared ys b o) α g =
-          via 𝓤 ⟦ (arr_parts (shares u8) (length ys)).part full_share ys b o ⟧ (shared_in ys b o)
-          (lends_shr_slice 𝓛 u8 (named j) (α ∷ []) full_share ys b o g)
-      lends_one j (lent ys b o) α g = via 𝓤 ⟦ cells (mem u8) ys b o ⟧ (bytes_in ys b o) (lends_slice 𝓛 u8 (named j) (α ∷ []) ys b o g)
+          let κ : Lft = α ∷ [] in
+          qed 𝓛 (raw (bytes_at ys b o) ∷ ‵ (flft κ full_share) ∷ []) ∵ updating ! $
+          use1 𝓛 (‵ ((arr_parts (shares u8) (length ys)).part full_share ys b o)) (shared_in ys b o) $
+          use2 𝓛 (later ((‵ (own_of j (shared ys b o) α 0) ⊛ ‵ (flent κ (owed_of (shared ys b o) 0))) ⊛ ‵ (flft κ full_share)))
+          (lends_shr_slice 𝓛 u8 (named j) κ full_share ys b o g κ ((uint_Copied 𝓛 w8).shares full_share κ) ((κ, full_share) ∷ []) (Incl-refl κ) (Incl-refl κ)) $
+          await ! tt $ split ! $ split ! $ at_once ! $ show ! (Lent j (shared ys b o) α) 0 $ done !
+      lends_one j (lent ys b o) α g =
+          let κ : Lft = α ∷ [] in
+          qed 𝓛 (raw (bytes_at ys b o) ∷ ‵ (flft κ full_share) ∷ []) ∵ updating ! $
+          use1 𝓛 (‵ (cells (mem u8) ys b o)) (bytes_in ys b o) $
+          use1 𝓛 (later (some (λ (γ : GName). ‵ (own_of j (lent ys b o) α γ) ⊛ ‵ (flent κ (owed_of (lent ys b o) γ)))))
+          (lends_slice 𝓛 u8 (named j) κ ys b o g) $
+          await ! tt $ pick ! (λ γ. split ! $ at_once ! $ show ! (Lent j (lent ys b o) α) γ $ done !)
 
       lends_step : (j : ℕ) (p : Passed) (ps : List Passed) → Roomy p → lies_all ps ⊢ H.⇛ (ex 𝓤 (Handed (suc j) ps))
           → lies_all (p ∷ ps) ⊢ H.⇛ (ex 𝓤 (Handed j (p ∷ ps)))
       lends_step j p ps g h =
-          qed 𝓛 (raw (lies p) ∷ raw (lies_all ps) ∷ []) ∵ updating ! $ lft_new ! tt (λ α. move ! (1 ∷ []) $
-          use1 𝓛 (later (some (λ (γ : GName). ‵ (own_of j p α γ) ⊛ ‵ (flent (α ∷ []) (owed_of p γ))))) (lends_one j p α g) $
-          await ! tt $ pick ! (λ γ. split ! $ move ! (3 ∷ []) $
+          qed 𝓛 (raw (lies p) ∷ raw (lies_all ps) ∷ []) ∵ updating ! $ lft_new ! tt (λ α. move ! (1 ∷ 0 ∷ []) $
+          use2 𝓛 (later (some (λ (γ : GName). ‵ (own_of j p α γ) ⊛ ‵ (flent (α ∷ []) (owed_of p γ)) ⊛ ‵ (flft (α ∷ []) full_share))))
+          (lends_one j p α g) $
+          await ! tt $ pick ! (λ γ. split3 ! $ move ! (3 ∷ []) $
           use1 𝓛 (later (some (λ (ξ : Fresh ps). raw (tokens ps ξ) ⊛ ‵ (owns_of (suc j) ps ξ) ⊛ raw (asides ps ξ)))) h $
           await ! tt $ pick ! (λ ξ. split ! $ move ! (1 ∷ []) $ split ! $ at_once ! $ show ! (Handed j (p ∷ ps)) ((α, γ), ξ) $
           -- [what the rest owns; what the rest is owed; the rest's tokens; what is owned; what is owed; the token]
@@ -218,12 +231,12 @@ module _ {M : Type 1} {𝓤 : Ura M} (𝓛 : Logic 𝓤) where
       lends_all j (p ∷ ps) g = lends_step j p ps g.0 (lends_all (suc j) ps g.1)
 
       -- after it: each lifetime is ended, and each buffer taken back at its last bytes
-      back_one : (p : Passed) (α : ℕ) (γ : GName) (w : Last p) → A.lft (α ∷ []) full_share ∗ ⟦ said_of p γ w ⟧ ∗ aside p (α, γ) ⊢ H.⇛ (last p w)
+      back_one : (p : Passed) (α : ℕ) (γ : GName) (w : Last p) → A.lft (α ∷ []) full_share ∗ ⟦ said_of p α γ w ⟧ ∗ aside p (α, γ) ⊢ H.⇛ (last p w)
       back_one (shared ys b o) α γ w =
           qed 𝓛 (‵ (flft (α ∷ []) full_share) ∷ ‵ ftrue ∷ ‵ (flent (α ∷ []) (owed_of (shared ys b o) γ)) ∷ []) ∵ updating ! $ at_once ! $ keep ! (1 ∷ []) $ done !
       back_one (lent ys b o) α γ w =
-          qed 𝓛 (‵ (flft (α ∷ []) full_share) ∷ ‵ (said_of (lent ys b o) γ w) ∷ ‵ (flent (α ∷ []) (Held u8 (length ys) b o γ)) ∷ []) ∵ updating ! $ lft_end ! tt $
-          move ! (1 ∷ []) $ fsplit ! $ move ! (2 ∷ 3 ∷ 0 ∷ []) $
+          qed 𝓛 (‵ (flft (α ∷ []) full_share) ∷ ‵ (said_of (lent ys b o) α γ w) ∷ ‵ (flent (α ∷ []) (Held u8 (length ys) b o γ)) ∷ []) ∵ updating ! $ lft_end ! tt $
+          move ! (1 ∷ []) $ fsplit ! $ move ! (1 ∷ []) $ drop ! $ fsplit ! $ move ! (2 ∷ 3 ∷ 0 ∷ []) $
           use3 𝓛 (later (‵ ((Arr (mem u8) (length ys)).own_at w b o))) (slice_back 𝓛 u8 (α ∷ []) γ w (length ys) b o) $ await ! tt $
           fsplit ! $ feq_l ! (λ e. at_once ! $ check ! e $ keep ! (0 ∷ []) $ by ! (bytes_out w b o))
 
@@ -231,7 +244,7 @@ module _ {M : Type 1} {𝓤 : Ura M} (𝓛 : Logic 𝓤) where
           → tokens ps ξ.1 ∗ ⟦ saids_of ps ξ.1 ws.1 ⟧ ∗ asides ps ξ.1 ⊢ H.⇛ (lasts ps ws.1)
           → tokens (p ∷ ps) ξ ∗ ⟦ saids_of (p ∷ ps) ξ ws ⟧ ∗ asides (p ∷ ps) ξ ⊢ H.⇛ (lasts (p ∷ ps) ws)
       back_step p ps ξ ws h =
-          qed 𝓛 ((‵ (flft (ξ.0.0 ∷ []) full_share) ⊛ raw (tokens ps ξ.1)) ∷ (‵ (said_of p ξ.0.1 ws.0) ⊛ ‵ (saids_of ps ξ.1 ws.1))
+          qed 𝓛 ((‵ (flft (ξ.0.0 ∷ []) full_share) ⊛ raw (tokens ps ξ.1)) ∷ (‵ (said_of p ξ.0.0 ξ.0.1 ws.0) ⊛ ‵ (saids_of ps ξ.1 ws.1))
           ∷ (‵ (flent (ξ.0.0 ∷ []) (owed_of p ξ.0.1)) ⊛ raw (asides ps ξ.1)) ∷ []) ∵ updating ! $
           split ! $ move ! (2 ∷ []) $ split ! $ move ! (4 ∷ []) $ split ! $
           -- [what is owed; what the rest is owed; what is said; what is said of the rest; the token; the rest's tokens]

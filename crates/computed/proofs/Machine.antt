@@ -9,10 +9,10 @@ use base.Logic.{SProp, sep, ex, via, mono_l, fst∗, snd∗, comm∗, assoc∗}
 use prog.Memory.{Memory}
 use prog.Machine.{done}
 use prog.Model.{Model}
-use prog.Routine.{Name, Routine}
+use prog.Routine.{Callee, Routine, step}
 use types.Logic.{Logic, sem}
 use contract.Monad.{fact}
-use contract.Running.{Running, alone}
+use contract.Running.{Running, alone, strict}
 use contract.Adequate.{Satisfies, sat_weaken, sat_⇛, sat_ex∗, sat_fact}
 use denote.Triple.Entry.{Res}
 use denote.Triple.Statement.{Contract}
@@ -31,14 +31,14 @@ module _ {M : Type 1} {𝓤 : Ura M} (𝓛 : Logic 𝓤) (𝓜 : Model 𝓤 𝓛
   abbrev pub Ends : Call.Ghost → Memory → SProp 𝓤 → Type 1
   Ends y σ F =
       (n : ℕ) × (v : Val) × (σ' : Memory) × (z : Res T.signature y.0.0) × (ws : Lasts T y.0.0 y.0.3)
-      × (ρ.step n (Call.args y) σ ≡ done (v, σ')) × φ y.0.0 y.0.3 z (at_exit T y.0.0 y.0.3 ws)
+      × (step ρ n (Call.args y) σ ≡ done (v, σ')) × φ y.0.0 y.0.3 z (at_exit T y.0.0 y.0.3 ws)
       × Satisfies 𝓤 H 𝓜 σ' (sep 𝓤 (sem 𝓛 (lasts T y.0.0 y.0.3 ws)) (sep 𝓤 (Back 𝓛 T.signature y.0 v z) F))
 
-  pub ends : Name → Meets 𝓛 T.signature (𝓡.run ρ) (closing 𝓛 T (promises T φ 𝓤)) → (y : Call.Ghost) (σ : Memory) (F : SProp 𝓤)
+  pub ends : Callee → Meets 𝓛 T.signature (𝓡.returns ρ) (closing 𝓛 T (promises T φ 𝓤)) → (y : Call.Ghost) (σ : Memory) (F : SProp 𝓤)
       → Satisfies 𝓤 H 𝓜 σ (sep 𝓤 (Call.pre y) F) → ∥ Ends y σ F ∥₁
   unfolding alone
   ends k met y σ F s =
-      ∥∥₁_elim (adequate 𝓤 H 𝓜 (alone 𝓤 H 𝓜 𝓡 ρ) k Call met y σ F s) ∥∥₁_prop (λ r.
+      ∥∥₁_elim (adequate 𝓤 H 𝓜 (alone 𝓤 H 𝓜 (strict 𝓤 H 𝓜 𝓡) ρ) ((λ s o. o), tt) k Call met y σ F s) ∥∥₁_prop (λ r.
       let v : Val = r.1 in
       let σ' : Memory = r.2 in
       let B : Res T.signature y.0.0 → SProp 𝓤 = λ z. Back 𝓛 T.signature y.0 v z in

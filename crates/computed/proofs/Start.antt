@@ -7,7 +7,7 @@ use mathlib.Core.List.{List, [], ◌∷◌, ◌++◌}
 use lib.ListN.{length}
 use lib.Dec.{lit<}
 use seplogic.Ra.Ura.{Ura}
-use seplogic.Ra.TreeShare.{full_share}
+use base.Fraction.{full_share}
 use mir.Syntax.{w8, ty_int}
 use mir.Val.{vint}
 use base.Logic.{SProp, ent, sep, emp, id⊢, via, assoc', mono_l, mono_r, mono∗, emp∗}

@@ -3,3 +3,4 @@ pub mod Held
 pub mod Renewed
 pub mod Left
 pub mod Promises
+pub mod Linked
