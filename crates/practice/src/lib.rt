@@ -203,7 +203,8 @@ pub fn settle(
     response: &mut [u8],
     next: &mut [u8],
 ) -> Outcome
-    ensures { settled_by result response.new next.new ≡ settled (holding image.now)
+    ensures { settled_by result response.new next.new
+        ≡ settled (holding image.now)
         (settle_call request.now draw.now answers.now response.old next.old) }
 {
     let Check::Fine = image::is_card(image) else {
@@ -264,8 +265,8 @@ fn ask_card(img: &[u8], request: &[u8], draw: &[u8], questions: &mut [u8]) -> Ou
 
 // Takes an image, a request and a draw; writes the questions for the crypto provider.
 pub fn ask(image: &[u8], request: &[u8], draw: &[u8], questions: &mut [u8]) -> Outcome
-    ensures { posed_by result questions.new ≡ asked_for (holding image.now)
-        (ask_call request.now draw.now questions.old) }
+    ensures { posed_by result questions.new
+        ≡ asked_for (holding image.now) (ask_call request.now draw.now questions.old) }
 {
     let Check::Fine = image::is_card(image) else {
         return ending::only(Outcome::NO_CARD);
@@ -294,8 +295,8 @@ pub fn power_off(image: &[u8], next: &mut [u8]) -> Outcome
 
 // The C face: the same calls under plain names. `practice_c` exports them.
 pub fn practice_ask(image: &[u8], request: &[u8], draw: &[u8], questions: &mut [u8]) -> Outcome
-    ensures { posed_by result questions.new
-        ≡ asked_for (holding image.now) (ask_call request.now draw.now questions.old) }
+    ensures { posed_by result questions.new ≡ asked_for (holding image.now)
+        (ask_call request.now draw.now questions.old) }
 {
     ask(image, request, draw, questions)
 }
@@ -308,8 +309,7 @@ pub fn practice_settle(
     response: &mut [u8],
     next: &mut [u8],
 ) -> Outcome
-    ensures { settled_by result response.new next.new
-        ≡ settled (holding image.now)
+    ensures { settled_by result response.new next.new ≡ settled (holding image.now)
         (settle_call request.now draw.now answers.now response.old next.old) }
 {
     settle(image, request, draw, answers, response, next)
