@@ -12,8 +12,8 @@
  * is 0, and what is written may not overlap with what is read; the two books of a join may be one list. Beyond that every content and
  * every count is taken: what does not fit is refused by a number, below.
  *
- * A call keeps nothing, and takes its working room from the stack: book_join some 110 kB, the others some 60 kB. A thread has to have so
- * much left. */
+ * A call keeps nothing, and takes its working room from the stack: book_read some 22 kB, book_write some 3.3 kB, book_join some 1.2 kB. A
+ * thread has to have so much left. */
 #ifndef BOOK_H
 #define BOOK_H
 

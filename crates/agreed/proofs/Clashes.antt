@@ -3,13 +3,16 @@ use Prim.Native.Nat.{ℕ}
 use mathlib.Core.Path.{◌≡◌, refl, sym, ap, ◌∙◌, subst}
 use mathlib.Core.Bool.{Bool, true, false, cond, not}
 use mathlib.Core.List.{List, [], ◌∷◌}
+use Rattle.std.proofs.lemmas.Option.{some_pair_parts}
 use Rattle.wire.proofs.Laws.{never}
 use Rattle.notes.specs.declared.Note.{Note}
-use Rattle.notes.specs.declared.Order.TheVariants.{Before, Same}
+use Rattle.std.specs.declared.cmp.Ordering.TheVariants.{Less, Equal}
 use Rattle.notes.specs.Notes.{order_of, alike_of}
 use Rattle.notes.proofs.Laws.{alike_note, note_alike}
-use Rattle.union.specs.declared.Match.TheVariants.{Agree, Differ}
-use Rattle.union.specs.Union.{Pair, First, Second, Both, note_in, clashes, lowest}
+use Rattle.std.proofs.Common.{None, Some}
+use Rattle.union.specs.declared.Pair.{Pair}
+use Rattle.union.specs.declared.Pair.TheVariants.{First, Second, Both}
+use Rattle.union.specs.Union.{note_in, clashes, lowest}
 use Rattle.agreed.specs.Agreed.{In, here, there, Below, Rising, Clashing, Lowest, NoClash}
 use Rattle.agreed.proofs.Order.{same_means, before_same, before_self, before_both, after_back}
 use Rattle.agreed.proofs.Books.{none_in}
@@ -52,7 +55,7 @@ not_heads x y xs ys a b d p q c = go c.first c.second
     go (there i) (there j) = made i j
 
 -- WHERE THE PAIRS AGREE nothing clashes
-pub agree_none : (f s : List Note) (ps : List Pair) → Sided f s ps → Rising f → Rising s → lowest ps ≡ Agree → NoClash f s
+pub agree_none : (f s : List Note) (ps : List Pair) → Sided f s ps → Rising f → Rising s → lowest ps ≡ None → NoClash f s
 agree_none f s ps ended p q e a b c = none_in a c.first
 agree_none f s ps (only_second r) p q e a b c = none_in a c.first
 agree_none f s ps (only_first r) p q e a b c = none_in b c.second
@@ -100,7 +103,7 @@ lowest_heads x y xs ys t n e p q l =
       lowest = λ u v d. l.lowest u v (not_heads x y xs ys u v e p q d);
     }
 
-lowest_here : (x y : Note) (xs ys : List Note) → order_of x y ≡ Same → (x ≡ y → ⊥) → Below x xs → Lowest (x ∷ xs) (y ∷ ys) x.tablet x.number
+lowest_here : (x y : Note) (xs ys : List Note) → order_of x y ≡ Equal → (x ≡ y → ⊥) → Below x xs → Lowest (x ∷ xs) (y ∷ ys) x.tablet x.number
 lowest_here x y xs ys e d b =
     let k = same_means x y e in
     record {
@@ -112,28 +115,24 @@ lowest_here x y xs ys e d b =
       lowest = λ u v c. go u c.first;
     }
   where
-    go : (u : Note) → In u (x ∷ xs) → order_of u x ≡ Before → ⊥
-    go u (here i) o = before_self x (subst (λ (w : Note). order_of w x ≡ Before) i o)
+    go : (u : Note) → In u (x ∷ xs) → order_of u x ≡ Less → ⊥
+    go u (here i) o = before_self x (subst (λ (w : Note). order_of w x ≡ Less) i o)
     go u (there i) o = before_both x u (b u i) o
 
-agree_differ : (t n : ℕ) → Agree ≡ Differ t n → ⊥
-agree_differ t n e = never cc
-
 by_alike :
-    (x y : Note) (xs ys : List Note) (qs : List Pair) (t n : ℕ) → order_of x y ≡ Same → Below x xs → Below y ys
-    → (lowest qs ≡ Differ t n → Lowest xs ys t n) → (u : Bool) → alike_of x y ≡ u → cond (not u) (Differ x.tablet x.number) (lowest qs) ≡ Differ t n
+    (x y : Note) (xs ys : List Note) (qs : List Pair) (t n : ℕ) → order_of x y ≡ Equal → Below x xs → Below y ys
+    → (lowest qs ≡ Some (t, n) → Lowest xs ys t n) → (u : Bool) → alike_of x y ≡ u → cond (not u) (Some (x.tablet, x.number)) (lowest qs) ≡ Some (t, n)
     → Lowest (x ∷ xs) (y ∷ ys) t n
 by_alike x y xs ys qs t n o p q h true e d = lowest_heads x y xs ys t n (alike_note x y e) p q (h d)
 by_alike x y xs ys qs t n o p q h false e d =
     let differs : x ≡ y → ⊥ = λ k. never (sym e ∙ subst (λ (w : Note). alike_of x w ≡ true) k (note_alike x)) in
-    let i : x.tablet ≡ t = cc in
-    let j : x.number ≡ n = cc in
-    subst (λ (a : ℕ). Lowest (x ∷ xs) (y ∷ ys) a n) i
-    (subst (λ (b : ℕ). Lowest (x ∷ xs) (y ∷ ys) x.tablet b) j (lowest_here x y xs ys o differs p))
+    let i = some_pair_parts x.tablet t x.number n d in
+    subst (λ (a : ℕ). Lowest (x ∷ xs) (y ∷ ys) a n) i.0
+    (subst (λ (b : ℕ). Lowest (x ∷ xs) (y ∷ ys) x.tablet b) i.1 (lowest_here x y xs ys o differs p))
 
-pub differ_lowest : (f s : List Note) (ps : List Pair) (t n : ℕ) → Sided f s ps → Rising f → Rising s → lowest ps ≡ Differ t n → Lowest f s t n
+pub differ_lowest : (f s : List Note) (ps : List Pair) (t n : ℕ) → Sided f s ps → Rising f → Rising s → lowest ps ≡ Some (t, n) → Lowest f s t n
 unfolding lowest clashes note_in
-differ_lowest f s ps t n ended p q e = absurd (agree_differ t n e)
+differ_lowest f s ps t n ended p q e = cc
 differ_lowest f s ps t n (only_second {y = y} {ys = ys} {ps = qs} r) p q e =
     lowest_second y [] ys t n (λ z i. absurd (none_in z i)) (differ_lowest [] ys qs t n r p q.1 e)
 differ_lowest f s ps t n (only_first {x = x} {xs = xs} {ps = qs} r) p q e =

@@ -7,7 +7,7 @@ use mathlib.Core.List.{List}
 use mathlib.Core.Logic.{◌⊎◌, inl, inr, ⊎_elim}
 use lib.ListN.{length}
 use Rattle.notes.specs.declared.Note.{Note}
-use Rattle.shelf.specs.declared.Outcome.TheVariants.{Done}
+use Rattle.std.proofs.Common.{Ok}
 use Rattle.shelf.specs.Shelf.{is_book}
 use Rattle.union.specs.Union.{merged, join_of}
 use Rattle.agreed.specs.Agreed.{In, ABook, Agreed, Joins, one, join, all, Agreeing, Of, itself, left, right}
@@ -70,7 +70,7 @@ module _ (p : ℕ) (room : 256 ≤ p) (a : Joins) (h : Agreeing p a) where
 
   next_join :
       (b c : Joins) → Agreeing p b → Agreeing p c → ((l : List Note) → Of l b → Of l a) → ((l : List Note) → Of l c → Of l a)
-      → join_of p (all b) (all c) ≡ Done (length (merged (all b) (all c)))
+      → join_of p (all b) (all c) ≡ Ok (length (merged (all b) (all c)))
   next_join b c i j f g =
       let x = all_book p b i in
       let y = all_book p c j in
@@ -102,8 +102,8 @@ back f g h l (right (right o)) = right o
 
 -- THREE BOOKS
 pub three_books :
-    (p : ℕ) (f g h : List Note) (a b c d : ℕ) → join_of p f g ≡ Done a → join_of p g h ≡ Done b
-    → join_of p (merged f g) h ≡ Done c → join_of p f (merged g h) ≡ Done d
+    (p : ℕ) (f g h : List Note) (a b c d : ℕ) → join_of p f g ≡ Ok a → join_of p g h ≡ Ok b
+    → join_of p (merged f g) h ≡ Ok c → join_of p f (merged g h) ≡ Ok d
     → (merged (merged f g) h ≡ merged f (merged g h)) × (c ≡ d)
 unfolding all
 three_books p f g h a b c d i j k l =

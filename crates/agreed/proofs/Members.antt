@@ -3,10 +3,12 @@ use mathlib.Core.Path.{◌≡◌, sym, ap, ◌∙◌}
 use mathlib.Core.List.{List, [], ◌∷◌}
 use mathlib.Core.Logic.{◌⊎◌, inl, inr}
 use Rattle.notes.specs.declared.Note.{Note}
-use Rattle.notes.specs.declared.Order.TheVariants.{Before, Same}
+use Rattle.std.specs.declared.cmp.Ordering.TheVariants.{Less, Equal}
 use Rattle.notes.specs.Notes.{order_of}
-use Rattle.union.specs.declared.Match.TheVariants.{Agree}
-use Rattle.union.specs.Union.{Pair, First, Second, Both, aside, note_in, notes_in, merged, lowest}
+use Rattle.std.proofs.Common.{None}
+use Rattle.union.specs.declared.Pair.{Pair}
+use Rattle.union.specs.declared.Pair.TheVariants.{First, Second, Both}
+use Rattle.union.specs.Union.{aside, note_in, notes_in, merged, lowest}
 use Rattle.agreed.specs.Agreed.{In, here, there, Below, Rising}
 use Rattle.agreed.proofs.Order.{same_first, before_trans, after_back}
 use Rattle.agreed.proofs.Books.{none_in}
@@ -65,7 +67,7 @@ onward_both : (z x y : Note) (ys l : List Note) → x ≡ y → (In z ys → In 
 onward_both z x y ys l d h (here e) = here (e ∙ sym d)
 onward_both z x y ys l d h (there i) = there (h i)
 
-from_second : (z : Note) (f s : List Note) (ps : List Pair) → Sided f s ps → lowest ps ≡ Agree → In z s → In z (notes_in ps)
+from_second : (z : Note) (f s : List Note) (ps : List Pair) → Sided f s ps → lowest ps ≡ None → In z s → In z (notes_in ps)
 unfolding notes_in note_in
 from_second z f s ps ended a i = i
 from_second z f s ps (only_second {y = y} {ys = ys} {ps = qs} r) a i =
@@ -79,14 +81,14 @@ from_second z f s ps (after {x = x} {y = y} {xs = xs} {ys = ys} {ps = qs} e r) a
     onward z y ys (notes_in qs) (from_second z (x ∷ xs) ys qs r (agree_head (Second y) qs a).1) i
 
 -- BELOW BOTH
-pub below_cons : (x y : Note) (ys : List Note) → order_of x y ≡ Before → Below y ys → Below x (y ∷ ys)
+pub below_cons : (x y : Note) (ys : List Note) → order_of x y ≡ Less → Below y ys → Below x (y ∷ ys)
 below_cons x y ys e b z (here d) = ap (order_of x) d ∙ e
 below_cons x y ys e b z (there i) = before_trans x y z e (b z i)
 
-below_same : (x y : Note) (ys : List Note) → order_of x y ≡ Same → Below y ys → Below x ys
+below_same : (x y : Note) (ys : List Note) → order_of x y ≡ Equal → Below y ys → Below x ys
 below_same x y ys e b z i = same_first x y z e ∙ b z i
 
-below_either : (w z : Note) (f s : List Note) → Below w f → Below w s → In z f ⊎ In z s → order_of w z ≡ Before
+below_either : (w z : Note) (f s : List Note) → Below w f → Below w s → In z f ⊎ In z s → order_of w z ≡ Less
 below_either w z f s p q (inl i) = p z i
 below_either w z f s p q (inr i) = q z i
 
@@ -116,7 +118,7 @@ pub merged_first : (f s : List Note) (z : Note) → In z f → In z (merged f s)
 unfolding merged
 merged_first f s z i = from_first z f s (aside f s) (sided f s) i
 
-pub merged_second : (f s : List Note) → lowest (aside f s) ≡ Agree → (z : Note) → In z s → In z (merged f s)
+pub merged_second : (f s : List Note) → lowest (aside f s) ≡ None → (z : Note) → In z s → In z (merged f s)
 unfolding merged
 merged_second f s a z i = from_second z f s (aside f s) (sided f s) a i
 

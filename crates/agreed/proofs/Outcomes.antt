@@ -1,69 +1,44 @@
 -- WHAT AN OUTCOME SAYS, Ask 8: which of the refusals came first, and that none before it did. Assumes nothing.
-use Prim.Native.Nat.{ℕ, ◌≤◌, ◌<◌}
-use native.Mathlib.Omega.{arith}
+use Rattle.std.proofs.Common.{◌≡◌, refl, sym, ◌∙◌, subst, ℕ, ◌≤◌, ◌<◌, arith, List, length, lt-ltb, le-ltb, Option, Some, None, Ok, Err}
 use native.Mathlib.Decide.{dec_lt}
-use mathlib.Core.Path.{◌≡◌, refl, sym, ◌∙◌, subst}
-use mathlib.Core.List.{List}
-use lib.ListN.{length}
-use borrow.Author.Tests.{lt-ltb, le-ltb}
 use Rattle.notes.specs.declared.Note.{Note}
-use Rattle.shelf.specs.declared.Outcome.{Outcome}
-use Rattle.shelf.specs.declared.Outcome.TheVariants.{Done, BadLine, Clash, Full, NoRoom}
+use Rattle.shelf.specs.declared.Refusal.TheVariants.{BadLine, Clash, Full, NoRoom}
 use Rattle.shelf.specs.Shelf.{first_bad}
-use Rattle.union.specs.declared.Match.{Match}
-use Rattle.union.specs.declared.Match.TheVariants.{Agree, Differ}
-use Rattle.union.specs.Union.{aside, merged, lowest, fitting_of, matched_of, decided, join_of}
+use Rattle.shelf.specs.Outcome.{Outcome}
+use Rattle.union.specs.Union.{aside, merged, lowest, fitting_of, matched_of, unless_bad, decided, join_of}
 
 -- the six ways, each with what was not so before it
-pub data Way (places first second : ℕ) (found : Match) (total : ℕ) : Outcome → Type 0 where
-  no_room : places < 256 → Way places first second found total NoRoom
-  bad_one : 256 ≤ places → 0 < first → Way places first second found total (BadLine 1 first)
-  bad_two : 256 ≤ places → first ≡ 0 → 0 < second → Way places first second found total (BadLine 2 second)
-  clash : {t n : ℕ} → 256 ≤ places → first ≡ 0 → second ≡ 0 → found ≡ Differ t n → Way places first second found total (Clash t n)
-  full : 256 ≤ places → first ≡ 0 → second ≡ 0 → found ≡ Agree → 256 < total → Way places first second found total Full
-  done : 256 ≤ places → first ≡ 0 → second ≡ 0 → found ≡ Agree → total ≤ 256 → Way places first second found total (Done total)
+pub data Way (places : ℕ) (first second : Option ℕ) (found : Option (ℕ × ℕ)) (total : ℕ) : Outcome → Type 0 where
+  no_room : places < 256 → Way places first second found total (Err NoRoom)
+  bad_one : {k : ℕ} → 256 ≤ places → first ≡ Some k → Way places first second found total (Err (BadLine 1 k))
+  bad_two : {k : ℕ} → 256 ≤ places → first ≡ None → second ≡ Some k → Way places first second found total (Err (BadLine 2 k))
+  clash : {t n : ℕ} → 256 ≤ places → first ≡ None → second ≡ None → found ≡ Some (t, n) → Way places first second found total (Err (Clash t n))
+  full : 256 ≤ places → first ≡ None → second ≡ None → found ≡ None → 256 < total → Way places first second found total (Err Full)
+  done : 256 ≤ places → first ≡ None → second ≡ None → found ≡ None → total ≤ 256 → Way places first second found total (Ok total)
 
 -- each way is the outcome
 pub way_is :
-    (places first second : ℕ) (found : Match) (total : ℕ) (o : Outcome) → Way places first second found total o
+    (places : ℕ) (first second : Option ℕ) (found : Option (ℕ × ℕ)) (total : ℕ) (o : Outcome) → Way places first second found total o
     → decided places first second found total ≡ o
-unfolding decided matched_of fitting_of
+unfolding decided unless_bad matched_of fitting_of
 way_is p a b m t o (no_room h) = rw (lt-ltb p 256 h)
-way_is p a b m t o (bad_one h k) = rw (le-ltb p 256 h, lt-ltb 0 a k)
-way_is p a b m t o (bad_two h i k) = let i' : a ≤ 0 = omega arith in rw (le-ltb p 256 h, le-ltb 0 a i', lt-ltb 0 b k)
-way_is p a b m t o (clash h i j k) =
-    let i' : a ≤ 0 = omega arith in
-    let j' : b ≤ 0 = omega arith in
-    rw (le-ltb p 256 h, le-ltb 0 a i', le-ltb 0 b j', k)
-way_is p a b m t o (full h i j k l) =
-    let i' : a ≤ 0 = omega arith in
-    let j' : b ≤ 0 = omega arith in
-    rw (le-ltb p 256 h, le-ltb 0 a i', le-ltb 0 b j', k, lt-ltb 256 t l)
-way_is p a b m t o (done h i j k l) =
-    let i' : a ≤ 0 = omega arith in
-    let j' : b ≤ 0 = omega arith in
-    rw (le-ltb p 256 h, le-ltb 0 a i', le-ltb 0 b j', k, le-ltb 256 t l)
+way_is p a b m t o (bad_one h i) = rw (le-ltb p 256 h, i)
+way_is p a b m t o (bad_two h i j) = rw (le-ltb p 256 h, i, j)
+way_is p a b m t o (clash h i j k) = rw (le-ltb p 256 h, i, j, k)
+way_is p a b m t o (full h i j k l) = rw (le-ltb p 256 h, i, j, k, lt-ltb 256 t l)
+way_is p a b m t o (done h i j k l) = rw (le-ltb p 256 h, i, j, k, le-ltb 256 t l)
 
 -- and there is always one
-some_way : (places first second : ℕ) (found : Match) (total : ℕ) → (o : Outcome) × Way places first second found total o
-some_way p a b m t = by_room (dec_lt p 256)
+some_way : (places : ℕ) (first second : Option ℕ) (found : Option (ℕ × ℕ)) (total : ℕ) → (o : Outcome) × Way places first second found total o
+some_way p a b m t = go (dec_lt p 256) a b m (dec_lt 256 t) refl refl refl
   where
-    by_match : 256 ≤ p → a ≡ 0 → b ≡ 0 → (x : Match) → m ≡ x → Dec (256 < t) → (o : Outcome) × Way p a b m t o
-    by_match h i j Agree e (yes k) = (Full, full h i j e k)
-    by_match h i j Agree e (no k) = (Done t, done h i j e (omega (arith, k)))
-    by_match h i j (Differ x y) e k = (Clash x y, clash h i j e)
-
-    by_second : 256 ≤ p → a ≡ 0 → Dec (0 < b) → (o : Outcome) × Way p a b m t o
-    by_second h i (yes k) = (BadLine 2 b, bad_two h i k)
-    by_second h i (no k) = by_match h i (omega (arith, k)) m refl (dec_lt 256 t)
-
-    by_first : 256 ≤ p → Dec (0 < a) → (o : Outcome) × Way p a b m t o
-    by_first h (yes k) = (BadLine 1 a, bad_one h k)
-    by_first h (no k) = by_second h (omega (arith, k)) (dec_lt 0 b)
-
-    by_room : Dec (p < 256) → (o : Outcome) × Way p a b m t o
-    by_room (yes h) = (NoRoom, no_room h)
-    by_room (no h) = by_first (omega (arith, h)) (dec_lt 0 a)
+    go : Dec (p < 256) → (x y : Option ℕ) (z : Option (ℕ × ℕ)) → Dec (256 < t) → a ≡ x → b ≡ y → m ≡ z → (o : Outcome) × Way p a b m t o
+    go (yes h) x y z d i j k = (Err NoRoom, no_room h)
+    go (no h) (Some n) y z d i j k = (Err (BadLine 1 n), bad_one (omega (arith, h)) i)
+    go (no h) None (Some n) z d i j k = (Err (BadLine 2 n), bad_two (omega (arith, h)) i j)
+    go (no h) None None (Some c) d i j k = (Err (Clash c.0 c.1), clash (omega (arith, h)) i j k)
+    go (no h) None None None (yes l) i j k = (Err Full, full (omega (arith, h)) i j k l)
+    go (no h) None None None (no l) i j k = (Ok t, done (omega (arith, h)) i j k (omega (arith, l)))
 
 module _ (places : ℕ) (f s : List Note) where
   abbrev pub JoinWay : Outcome → Type 0

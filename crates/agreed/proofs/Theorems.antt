@@ -8,14 +8,17 @@ use mathlib.Core.Logic.{⊎_elim}
 use lib.ListN.{length}
 use Rattle.notes.specs.declared.Note.{Note}
 use Rattle.notes.proofs.Laws.{note_alike}
-use Rattle.shelf.specs.declared.Outcome.TheVariants.{Done}
+use Rattle.std.proofs.Common.{Ok}
 use Rattle.shelf.specs.Shelf.{first_bad, is_book}
-use Rattle.union.specs.declared.Match.{Match}
-use Rattle.union.specs.declared.Match.TheVariants.{Agree}
-use Rattle.union.specs.Union.{Pair, Both, seconds, aside, note_in, notes_in, merged, clashes, lowest, decided, join_of}
+use Rattle.std.proofs.Common.{Option}
+use Rattle.std.proofs.Common.{None}
+use Rattle.union.specs.declared.Pair.{Pair}
+use Rattle.union.specs.declared.Pair.TheVariants.{Both}
+use Rattle.union.specs.Union.{seconds, aside, note_in, notes_in, merged, clashes, lowest, decided, join_of}
 use Rattle.agreed.specs.Agreed.{ABook, Agreed}
 use Rattle.agreed.proofs.Order.{same_self}
-use Rattle.agreed.proofs.Books.{none_in, first_bad_lem, is_a_book, book_is}
+use Rattle.shelf.proofs.Laws.{book_none}
+use Rattle.agreed.proofs.Books.{none_in, is_a_book, book_is}
 use Rattle.agreed.proofs.Sides.{Sided, ended, same, one_way, merged_length, lowest_turns, merged_turns}
 use Rattle.agreed.proofs.Members.{merged_only, merged_first, merged_second, merged_rises}
 use Rattle.agreed.proofs.Outcomes.{done, way_joins}
@@ -25,13 +28,13 @@ use Rattle.agreed.proofs.Means.{done_means, done_agrees}
 pub either_order : (places : ℕ) (f s : List Note) → is_book f ≡ true → is_book s ≡ true → join_of places f s ≡ join_of places s f
 unfolding join_of
 either_order places f s b c =
-    let i = first_bad_lem f b in
-    let j = first_bad_lem s c in
-    ap₂ (λ (x y : ℕ). decided places x y (lowest (aside f s)) (length (merged f s))) (i ∙ sym j) (j ∙ sym i)
-    ∙ ap₂ (λ (m : Match) (n : ℕ). decided places (first_bad s) (first_bad f) m n) (lowest_turns f s) (merged_length f s)
+    let i = book_none f b in
+    let j = book_none s c in
+    ap₂ (λ (x y : Option ℕ). decided places x y (lowest (aside f s)) (length (merged f s))) (i ∙ sym j) (j ∙ sym i)
+    ∙ ap₂ (λ (m : Option (ℕ × ℕ)) (n : ℕ). decided places (first_bad s) (first_bad f) m n) (lowest_turns f s) (merged_length f s)
 
 -- and where it is done, the same notes
-pub either_notes : (places : ℕ) (f s : List Note) (n : ℕ) → join_of places f s ≡ Done n → merged f s ≡ merged s f
+pub either_notes : (places : ℕ) (f s : List Note) (n : ℕ) → join_of places f s ≡ Ok n → merged f s ≡ merged s f
 either_notes places f s n e = merged_turns f s (done_agrees places f s n e)
 
 -- EACH NOTE OF BOTH ONCE
@@ -43,7 +46,7 @@ merged_book f s a b h =
       rising = merged_rises f s a.rising b.rising;
     }
 
-pub each_once : (places : ℕ) (f s : List Note) (n : ℕ) → join_of places f s ≡ Done n → Agreed f s (merged f s) × (n ≡ length (merged f s))
+pub each_once : (places : ℕ) (f s : List Note) (n : ℕ) → join_of places f s ≡ Ok n → Agreed f s (merged f s) × (n ≡ length (merged f s))
 each_once places f s n e =
     let d = done_means places f s n e in (
       record {
@@ -70,7 +73,7 @@ unfolding self_aside notes_in note_in
 self_notes [] = refl
 self_notes (x ∷ xs) = ap (λ (l : List Note). x ∷ l) (self_notes xs)
 
-self_agrees : (f : List Note) → lowest (self_aside f) ≡ Agree
+self_agrees : (f : List Note) → lowest (self_aside f) ≡ None
 unfolding self_aside lowest clashes
 self_agrees [] = refl
 self_agrees (x ∷ xs) = rw (note_alike x) (self_agrees xs)
@@ -81,13 +84,13 @@ merged_self f = ap notes_in (one_way f f (self_aside f) (self_sided f)) ∙ self
 
 -- a join with no clash that gives one of the two back
 stays :
-    (places : ℕ) (f s l : List Note) → is_book f ≡ true → is_book s ≡ true → is_book l ≡ true → 256 ≤ places → lowest (aside f s) ≡ Agree → merged f s ≡ l
-    → join_of places f s ≡ Done (length l)
+    (places : ℕ) (f s l : List Note) → is_book f ≡ true → is_book s ≡ true → is_book l ≡ true → 256 ≤ places → lowest (aside f s) ≡ None → merged f s ≡ l
+    → join_of places f s ≡ Ok (length l)
 stays places f s l b c d h e k =
     let few : length (merged f s) ≤ 256 = subst (λ (m : List Note). length m ≤ 256) (sym k) (is_a_book l d).few in
-    way_joins places f s (Done (length (merged f s))) (done h (first_bad_lem f b) (first_bad_lem s c) e few) ∙ ap (λ (m : List Note). Done (length m)) k
+    way_joins places f s (Ok (length (merged f s))) (done h (book_none f b) (book_none s c) e few) ∙ ap (λ (m : List Note). Ok (length m)) k
 
-pub joined_self : (places : ℕ) (f : List Note) → is_book f ≡ true → 256 ≤ places → (join_of places f f ≡ Done (length f)) × (merged f f ≡ f)
+pub joined_self : (places : ℕ) (f : List Note) → is_book f ≡ true → 256 ≤ places → (join_of places f f ≡ Ok (length f)) × (merged f f ≡ f)
 joined_self places f b h =
     (stays places f f f b b b h (ap lowest (one_way f f (self_aside f) (self_sided f)) ∙ self_agrees f) (merged_self f), merged_self f)
 
@@ -100,12 +103,12 @@ unfolding notes_in note_in seconds
 seconds_notes [] = refl
 seconds_notes (y ∷ ys) = ap (λ (l : List Note). y ∷ l) (seconds_notes ys)
 
-seconds_agree : (s : List Note) → lowest (seconds s) ≡ Agree
+seconds_agree : (s : List Note) → lowest (seconds s) ≡ None
 unfolding lowest clashes seconds
 seconds_agree [] = refl
 seconds_agree (y ∷ ys) = seconds_agree ys
 
-none_agrees : (s : List Note) → lowest (aside [] s) ≡ Agree
+none_agrees : (s : List Note) → lowest (aside [] s) ≡ None
 unfolding aside
 none_agrees s = seconds_agree s
 
@@ -115,7 +118,7 @@ none_merged s = seconds_notes s
 
 pub joined_none :
     (places : ℕ) (f : List Note) → is_book f ≡ true → 256 ≤ places
-    → ((join_of places f [] ≡ Done (length f)) × (merged f [] ≡ f)) × ((join_of places [] f ≡ Done (length f)) × (merged [] f ≡ f))
+    → ((join_of places f [] ≡ Ok (length f)) × (merged f [] ≡ f)) × ((join_of places [] f ≡ Ok (length f)) × (merged [] f ≡ f))
 joined_none places f b h =
     let e = none_agrees f in
     let k = none_merged f in

@@ -1,10 +1,8 @@
 -- What the theorems of joined books speak of, Ask 8: a note of a book, what a book is, what two books have in other words, their union. Assumes nothing.
-use Rattle.std.specs.Prelude.{◌≡◌, true, List, [], ◌∷◌, ◌⊎◌, ℕ, ◌≤◌, length}
+use Rattle.std.specs.Prelude.{◌≡◌, true, List, [], ◌∷◌, ◌⊎◌, ℕ, ◌≤◌, length, Some, Ok}
 use Rattle.notes.specs.declared.Note.{Note}
-use Rattle.notes.specs.declared.Order.{Order}
-use Rattle.notes.specs.declared.Order.TheVariants.{Before, Same, After}
+use Rattle.std.specs.declared.cmp.Ordering.TheVariants.{Less}
 use Rattle.notes.specs.Notes.{good_of, order_of}
-use Rattle.shelf.specs.declared.Outcome.TheVariants.{Done}
 use Rattle.shelf.specs.Shelf.{first_bad, is_book}
 use Rattle.union.specs.Union.{merged, join_of}
 
@@ -13,15 +11,9 @@ pub data In (x : Note) : List Note → Type 0 where
   here : {y : Note} {l : List Note} → x ≡ y → In x (y ∷ l)
   there : {y : Note} {l : List Note} → In x l → In x (y ∷ l)
 
--- the order, seen from the other note
-unfoldable pub flipped : Order → Order
-flipped Before = After
-flipped Same = Same
-flipped After = Before
-
 -- STRICTLY RISING: each note comes before every later one
 abbrev pub Below : Note → List Note → Type 0
-Below x l = (z : Note) → In z l → order_of x z ≡ Before
+Below x l = (z : Note) → In z l → order_of x z ≡ Less
 
 abbrev pub Rising : List Note → Type 0
 Rising [] = Unit {0}
@@ -55,7 +47,7 @@ pub record Lowest (f s : List Note) (t n : ℕ) : Type 0 where
   pub clash : Clashing f s x y
   pub tablet : x.tablet ≡ t
   pub number : x.number ≡ n
-  pub lowest : (a b : Note) → Clashing f s a b → order_of a x ≡ Before → ⊥
+  pub lowest : (a b : Note) → Clashing f s a b → order_of a x ≡ Less → ⊥
 
 -- WHERE NO REFUSAL COMES BEFORE: there is room, and both are books
 pub record Books (places : ℕ) (f s : List Note) : Type 0 where
@@ -68,7 +60,7 @@ NoClash f s = (x y : Note) → Clashing f s x y → ⊥
 
 -- A BAD LINE k of the book b: the first bad record of the first book, or of the second where the first is a book
 abbrev pub BadRecord : List Note → List Note → ℕ → ℕ → Type 0
-BadRecord f s b k = ((b ≡ 1) × (first_bad f ≡ k) × (k ≡ 0 → ⊥)) ⊎ ((b ≡ 2) × (is_book f ≡ true) × (first_bad s ≡ k) × (k ≡ 0 → ⊥))
+BadRecord f s b k = ((b ≡ 1) × (first_bad f ≡ Some k)) ⊎ ((b ≡ 2) × (is_book f ≡ true) × (first_bad s ≡ Some k))
 
 -- ANY GROUPING: books joined two by two, in any order
 pub data Joins : Type 0 where
@@ -82,7 +74,7 @@ all (join a b) = merged (all a) (all b)
 -- each is a book, and none of the joins refuses
 abbrev pub Agreeing : ℕ → Joins → Type 0
 Agreeing p (one l) = is_book l ≡ true
-Agreeing p (join a b) = Agreeing p a × Agreeing p b × ((n : ℕ) × (join_of p (all a) (all b) ≡ Done n))
+Agreeing p (join a b) = Agreeing p a × Agreeing p b × ((n : ℕ) × (join_of p (all a) (all b) ≡ Ok n))
 
 -- l is one of the books
 pub data Of (l : List Note) : Joins → Type 0 where

@@ -1,14 +1,9 @@
 -- THE HANDOVER BOOK as a lent list, Ask 8: what each function leaves in what is lent. Assumes nothing.
 use Rattle.std.specs.Prelude.{List, ℕ, length}
 use Rattle.notes.specs.declared.Note.{Note}
-use Rattle.shelf.specs.Shelf.{most, mixed, least}
 use Rattle.shelf.specs.Outcome.{after_of}
 use Rattle.union.specs.Union.{merged, join_of}
 use Rattle.booktext.specs.BookText.{meaning, notes_of, read_of, text_of, write_of}
-
--- the first n of a are laid into l, as far as both have places; the rest of l is as it was
-unfoldable pub laid_of : List Note → List Note → ℕ → List Note
-laid_of l a n = mixed (least (least n most) (length l)) a l
 
 -- the lent list p after a text is read: its notes in front and the rest as it was, or all as it was
 unfoldable pub read_into : List ℕ → List Note → List Note

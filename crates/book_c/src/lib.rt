@@ -9,10 +9,10 @@ ghost use Rattle.booktext.specs.BookText.{read_of, write_of};
 ghost use Rattle.book.specs.Book.{read_into, written_into, joined_into};
 
 use notes::Note;
-use shelf::Result;
+use shelf::Numbers;
 
 #[unsafe(no_mangle)]
-pub extern "C" fn book_read(text: &[u8], book: &mut [Note]) -> Result
+pub extern "C" fn book_read(text: &[u8], book: &mut [Note]) -> Numbers
     ensures { (result ≡ numbers_of (read_of (length book.old) text.now))
         × (book.new ≡ read_into text.now book.old) }
 {
@@ -20,7 +20,7 @@ pub extern "C" fn book_read(text: &[u8], book: &mut [Note]) -> Result
 }
 
 #[unsafe(no_mangle)]
-pub extern "C" fn book_write(book: &[Note], text: &mut [u8]) -> Result
+pub extern "C" fn book_write(book: &[Note], text: &mut [u8]) -> Numbers
     ensures { (result ≡ numbers_of (write_of (length text.old) book.now))
         × (text.new ≡ written_into book.now text.old) }
 {
@@ -28,7 +28,7 @@ pub extern "C" fn book_write(book: &[Note], text: &mut [u8]) -> Result
 }
 
 #[unsafe(no_mangle)]
-pub extern "C" fn book_join(first: &[Note], second: &[Note], joined: &mut [Note]) -> Result
+pub extern "C" fn book_join(first: &[Note], second: &[Note], joined: &mut [Note]) -> Numbers
     ensures { (result ≡ numbers_of (join_of (length joined.old) first.now second.now))
         × (joined.new ≡ joined_into first.now second.now joined.old) }
 {

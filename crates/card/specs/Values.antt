@@ -43,48 +43,38 @@ u32 n = n % 4294967296
 
 -- THE WALLET. F8: Loaded, number one more, Remaining is Max
 abbrev pub created : ℕ → Wallet → Wallet
-created max w = record { status = 2; number = u16 (w.number + 1); remaining = max; signed = w.signed }
+created max w = record w { status = 2; number = u16 (w.number + 1); remaining = max }
 
 -- FB: Remaining falls by one, Signed_Hashes rises by the number of hashes
 abbrev pub spent : ℕ → Wallet → Wallet
-spent n w = record { status = w.status; number = w.number; remaining = w.remaining - 1; signed = u32 (w.signed + n) }
+spent n w = record w { remaining = w.remaining - 1; signed = u32 (w.signed + n) }
 
 -- FC: Remaining 0, Empty if reusable, else Purged
 abbrev pub after_purge : ℕ → ℕ
 after_purge reusable = cond (reusable == 1) 1 3
 
 abbrev pub purged : ℕ → Wallet → Wallet
-purged reusable w = record { status = after_purge reusable; number = w.number; remaining = 0; signed = w.signed }
+purged reusable w = record w { status = after_purge reusable; remaining = 0 }
 
 -- COUNTERS. FB: both user counters rise by one, going from 4,294,967,295 to 0
 abbrev pub risen : Counters → Counters
-risen x = record { checks = x.checks; validations = x.validations; user = u32 (x.user + 1); protected = u32 (x.protected + 1) }
+risen x = record x { user = u32 (x.user + 1); protected = u32 (x.protected + 1) }
 
 -- F9: the counter rises by one and stays at its top
 abbrev pub checked_once : Counters → Counters
-checked_once x =
-    record { checks = cond (nat_lt x.checks top32) (x.checks + 1) x.checks; validations = x.validations; user = x.user; protected = x.protected }
+checked_once x = record x { checks = cond (nat_lt x.checks top32) (x.checks + 1) x.checks }
 
 -- F4: it rises
 abbrev pub validated_once : Counters → Counters
-validated_once x = record { checks = x.checks; validations = u16 (x.validations + 1); user = x.user; protected = x.protected }
+validated_once x = record x { validations = u16 (x.validations + 1) }
 
 -- THE FLAGS. FE: activated, for good
 abbrev pub activated : Flags → Flags
-activated g =
-    record {
-      reusable = g.reusable;
-      usecvc = g.usecvc;
-      setpin1 = g.setpin1;
-      setpin2 = g.setpin2;
-      nopurge = g.nopurge;
-      replay = g.replay;
-      active = 1;
-    }
+activated g = record g { active = 1 }
 
 -- THE CODES. FE with Reset_PIN1: PIN1 becomes its default
 abbrev pub reset_pin1 : Codes → Codes
-reset_pin1 x = record { pin1 = default_pin1; pin2 = x.pin2 }
+reset_pin1 x = record x { pin1 = default_pin1 }
 
 -- THE WAIT (02 Ask 7): wrong codes counted, and of the request that is held the seconds left and the size. Nothing counted and nothing held
 abbrev pub no_wait : Wait
@@ -92,15 +82,15 @@ no_wait = record { wrong = 0; left = 0; size = 0 }
 
 -- nothing held, the count as it was
 abbrev pub dropped : Wait → Wait
-dropped w = record { wrong = w.wrong; left = 0; size = 0 }
+dropped w = record w { left = 0; size = 0 }
 
 -- one more, "at 60 it stays"
 abbrev pub counted : Wait → Wait
-counted w = record { wrong = cond (nat_lt w.wrong most_wrong) (w.wrong + 1) w.wrong; left = w.left; size = w.size }
+counted w = record w { wrong = cond (nat_lt w.wrong most_wrong) (w.wrong + 1) w.wrong }
 
 -- a request of so many bytes held for so many seconds, the count as it was
 abbrev pub held_for : ℕ → ℕ → Wait → Wait
-held_for seconds size w = record { wrong = w.wrong; left = seconds; size = size }
+held_for seconds size w = record w { left = seconds; size = size }
 
 -- WHAT IS HELD: bytes with their size, and room that is zero after them
 abbrev pub held_key : List ℕ → Key
@@ -170,55 +160,45 @@ fresh x g k =
     }
 
 abbrev pub faced : Face → Card → Card
-faced f c = record { face = f; codes = c.codes }
+faced f c = record c { face = f }
 
 -- A FACE with one group anew
 abbrev pub fronted : Front → Face → Face
-fronted x f = record { front = x; held = f.held; pending = f.pending; last = f.last }
+fronted x f = record f { front = x }
 
 abbrev pub holding : Held → Face → Face
-holding x f = record { front = f.front; held = x; pending = f.pending; last = f.last }
+holding x f = record f { held = x }
 
 -- what is fixed, but for the pause
 abbrev pub paused_by : ℕ → Fixed → Fixed
-paused_by n x = record { cid = x.cid; cvc = x.cvc; curve = x.curve; max = x.max; seed = x.seed; pause = n }
+paused_by n x = record x { pause = n }
 
 abbrev pub with_pause : ℕ → Face → Face
-with_pause n f =
-    let g : Front = f.front in
-    fronted (record { fixed = paused_by n g.fixed; flags = g.flags; wallet = g.wallet; key = g.key; counters = g.counters }) f
+with_pause n f = fronted (record f.front { fixed = paused_by n f.front.fixed }) f
 
 abbrev pub with_flags : Flags → Face → Face
-with_flags x f =
-    let g : Front = f.front in
-    fronted (record { fixed = g.fixed; flags = x; wallet = g.wallet; key = g.key; counters = g.counters }) f
+with_flags x f = fronted (record f.front { flags = x }) f
 
 abbrev pub with_wallet : Wallet → Face → Face
-with_wallet x f =
-    let g : Front = f.front in
-    fronted (record { fixed = g.fixed; flags = g.flags; wallet = x; key = g.key; counters = g.counters }) f
+with_wallet x f = fronted (record f.front { wallet = x }) f
 
 abbrev pub with_key : Key → Face → Face
-with_key x f =
-    let g : Front = f.front in
-    fronted (record { fixed = g.fixed; flags = g.flags; wallet = g.wallet; key = x; counters = g.counters }) f
+with_key x f = fronted (record f.front { key = x }) f
 
 abbrev pub with_counters : Counters → Face → Face
-with_counters x f =
-    let g : Front = f.front in
-    fronted (record { fixed = g.fixed; flags = g.flags; wallet = g.wallet; key = g.key; counters = x }) f
+with_counters x f = fronted (record f.front { counters = x }) f
 
 abbrev pub with_user : Block → Face → Face
-with_user x f = holding (record { user = x; protected = f.held.protected; issuer = f.held.issuer }) f
+with_user x f = holding (record f.held { user = x }) f
 
 abbrev pub with_protected : Block → Face → Face
-with_protected x f = holding (record { user = f.held.user; protected = x; issuer = f.held.issuer }) f
+with_protected x f = holding (record f.held { protected = x }) f
 
 abbrev pub with_issuer : Issuer → Face → Face
-with_issuer x f = holding (record { user = f.held.user; protected = f.held.protected; issuer = x }) f
+with_issuer x f = holding (record f.held { issuer = x }) f
 
 abbrev pub with_pending : Pending → Face → Face
-with_pending x f = record { front = f.front; held = f.held; pending = x; last = f.last }
+with_pending x f = record f { pending = x }
 
 abbrev pub with_last : Last → Face → Face
-with_last x f = record { front = f.front; held = f.held; pending = f.pending; last = x }
+with_last x f = record f { last = x }

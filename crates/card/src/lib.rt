@@ -6,10 +6,11 @@ mod defaults;
 pub mod layout;
 mod waiting;
 
-ghost use Rattle.std.specs.Prelude.{◌≡◌, ◌+◌, ◌-◌, if◌then◌else◌, nat_lt};
-ghost use Rattle.card.specs.Layout.{top32};
-ghost use Rattle.card.specs.Values.{u32, activated, created, spent, purged, after_purge, risen, checked_once, validated_once, fresh};
-ghost use Rattle.card.specs.Values.{no_block, no_issuer};
+ghost use Rattle.std.specs.Prelude.{◌≡◌};
+ghost use Rattle.card.specs.Values.{activated, created, spent, purged, risen, checked_once, validated_once, fresh};
+
+// Flags, Status and curve are bytes as they stand, since an image may spell any; `image` tests that they are known ones. What is held
+// stands in a room of fixed size with its size beside it, as docs/IMAGE.md has it.
 
 // The codes: what no answer may tell.
 #[derive(Clone, Copy)]
@@ -153,15 +154,7 @@ impl Flags {
     pub fn activate(self) -> Flags
         ensures { result ≡ activated self }
     {
-        Flags {
-            reusable: self.reusable,
-            usecvc: self.usecvc,
-            setpin1: self.setpin1,
-            setpin2: self.setpin2,
-            nopurge: self.nopurge,
-            replay: self.replay,
-            active: 1,
-        }
+        Flags { active: 1, ..self }
     }
 }
 
@@ -200,10 +193,10 @@ impl Wallet {
 
     pub const PURGED: u8 = 3;
 
-    pub const TOP_NUMBER: u16 = 65535;
+    pub const TOP_NUMBER: u16 = u16::MAX;
 
     // Of Signed_Hashes.
-    pub const TOP: u32 = 4294967295;
+    pub const TOP: u32 = u32::MAX;
 
     // F8: Loaded, number one more, Remaining is Max.
     pub fn create(self, max: u32) -> Wallet
@@ -213,7 +206,7 @@ impl Wallet {
             status: Wallet::LOADED,
             number: self.number.wrapping_add(1),
             remaining: max,
-            signed: self.signed,
+            ..self
         }
     }
 
@@ -222,10 +215,13 @@ impl Wallet {
         ensures { result ≡ spent hashes self }
     {
         Wallet {
-            status: self.status,
-            number: self.number,
-            remaining: less(self.remaining, 1),
+            remaining: if self.remaining == 0 {
+                0
+            } else {
+                self.remaining - 1
+            },
             signed: self.signed.wrapping_add(hashes),
+            ..self
         }
     }
 
@@ -234,57 +230,30 @@ impl Wallet {
         ensures { result ≡ purged reusable self }
     {
         Wallet {
-            status: after_purge(reusable),
-            number: self.number,
+            status: if reusable == 1 {
+                Wallet::EMPTY
+            } else {
+                Wallet::PURGED
+            },
             remaining: 0,
-            signed: self.signed,
+            ..self
         }
     }
 }
 
-fn after_purge(reusable: u8) -> u8
-    ensures { result ≡ after_purge reusable }
-{
-    if reusable == 1 {
-        return Wallet::EMPTY;
-    }
-    Wallet::PURGED
-}
-
-fn less(n: u32, by: u32) -> u32
-    ensures { result ≡ n - by }
-{
-    if n < by { 0 } else { n - by }
-}
-
-// One more, and the top stays.
-fn one_more(n: u32) -> u32
-    ensures { result ≡ (if nat_lt n top32 then n + 1 else n) }
-{
-    if n < Counters::TOP { n + 1 } else { n }
-}
-
-// One more, going from 4,294,967,295 to 0.
-fn turned(n: u32) -> u32
-    ensures { result ≡ u32 (n + 1) }
-{
-    n.wrapping_add(1)
-}
-
 impl Counters {
-    pub const TOP: u32 = 4294967295;
+    pub const TOP: u32 = u32::MAX;
 
-    pub const TOP_VALIDATIONS: u16 = 65535;
+    pub const TOP_VALIDATIONS: u16 = u16::MAX;
 
     // FB: both user counters.
     pub fn signed(self) -> Counters
         ensures { result ≡ risen self }
     {
         Counters {
-            checks: self.checks,
-            validations: self.validations,
-            user: turned(self.user),
-            protected: turned(self.protected),
+            user: self.user.wrapping_add(1),
+            protected: self.protected.wrapping_add(1),
+            ..self
         }
     }
 
@@ -293,10 +262,12 @@ impl Counters {
         ensures { result ≡ checked_once self }
     {
         Counters {
-            checks: one_more(self.checks),
-            validations: self.validations,
-            user: self.user,
-            protected: self.protected,
+            checks: if self.checks < Counters::TOP {
+                self.checks + 1
+            } else {
+                self.checks
+            },
+            ..self
         }
     }
 
@@ -305,30 +276,9 @@ impl Counters {
         ensures { result ≡ validated_once self }
     {
         Counters {
-            checks: self.checks,
             validations: self.validations.wrapping_add(1),
-            user: self.user,
-            protected: self.protected,
+            ..self
         }
-    }
-}
-
-// All data empty.
-fn no_data() -> Held
-    ensures { result ≡ record { user = no_block; protected = no_block; issuer = no_issuer } }
-{
-    let none = Block {
-        size: 0,
-        bytes: [0u8; Block::ROOM],
-    };
-    Held {
-        user: none,
-        protected: none,
-        issuer: Issuer {
-            block: none,
-            signature: [0u8; Last::SIGNATURE_SIZE],
-            counter: 0,
-        },
     }
 }
 
@@ -338,6 +288,10 @@ impl Card {
     pub fn fresh(fixed: Fixed, flags: Flags, codes: Codes) -> Card
         ensures { result ≡ fresh fixed flags codes }
     {
+        let none = Block {
+            size: 0,
+            bytes: [0; Block::ROOM],
+        };
         let front = Front {
             fixed,
             flags,
@@ -349,7 +303,7 @@ impl Card {
             },
             key: Key {
                 size: 0,
-                bytes: [0u8; Key::ROOM],
+                bytes: [0; Key::ROOM],
             },
             counters: Counters {
                 checks: 0,
@@ -358,21 +312,31 @@ impl Card {
                 protected: 0,
             },
         };
-        let held = no_data();
+        let held = Held {
+            user: none,
+            protected: none,
+            issuer: Issuer {
+                block: none,
+                signature: [0; Last::SIGNATURE_SIZE],
+                counter: 0,
+            },
+        };
         let pending = Pending {
             wait: Wait::none(),
-            request: [0u8; Pending::ROOM],
+            request: [0; Pending::ROOM],
         };
         let last = Last {
             count: 0,
-            signatures: [0u8; Last::ROOM],
+            signatures: [0; Last::ROOM],
         };
-        let face = Face {
-            front,
-            held,
-            pending,
-            last,
-        };
-        Card { face, codes }
+        Card {
+            face: Face {
+                front,
+                held,
+                pending,
+                last,
+            },
+            codes,
+        }
     }
 }

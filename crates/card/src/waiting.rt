@@ -1,16 +1,8 @@
 // The wait as one small value, which is dropped, counted and held, and handed back (02 Ask 7).
-ghost use Rattle.std.specs.Prelude.{◌≡◌, ◌+◌, if◌then◌else◌, nat_lt};
-ghost use Rattle.card.specs.Layout.{most_wrong};
+ghost use Rattle.std.specs.Prelude.{◌≡◌};
 ghost use Rattle.card.specs.Values.{no_wait, dropped, counted, held_for};
 
 use crate::{Fixed, Wait};
-
-// One more, and 60 stays.
-fn one_wrong_more(n: u8) -> u8
-    ensures { result ≡ (if nat_lt n most_wrong then n + 1 else n) }
-{
-    if n < Wait::MOST_WRONG { n + 1 } else { n }
-}
 
 impl Wait {
     pub const MOST_WRONG: u8 = 60;
@@ -33,9 +25,9 @@ impl Wait {
         ensures { result ≡ dropped self }
     {
         Wait {
-            wrong: self.wrong,
             left: 0,
             size: 0,
+            ..self
         }
     }
 
@@ -44,9 +36,12 @@ impl Wait {
         ensures { result ≡ counted self }
     {
         Wait {
-            wrong: one_wrong_more(self.wrong),
-            left: self.left,
-            size: self.size,
+            wrong: if self.wrong < Wait::MOST_WRONG {
+                self.wrong + 1
+            } else {
+                self.wrong
+            },
+            ..self
         }
     }
 
@@ -55,9 +50,9 @@ impl Wait {
         ensures { result ≡ held_for seconds size self }
     {
         Wait {
-            wrong: self.wrong,
             left: seconds,
             size,
+            ..self
         }
     }
 }

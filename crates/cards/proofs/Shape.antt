@@ -1,4 +1,5 @@
 -- LENGTHS: those of a card's groups, from its shape; the shape of what is held, and of a face with one group anew. Assumes nothing.
+use Rattle.std.proofs.Common.{rules}
 use mathlib.Core.Path.{◌≡◌, refl}
 use mathlib.Core.List.{List, []}
 use Prim.Native.Nat.{ℕ, ◌-◌}
@@ -141,44 +142,34 @@ held_last_wide s = long_last (held_last s) (held_last_long s)
 -- A FACE with one group anew
 module _ (f : Face) (s : ShapeFace f) where
   pub shape_with_pause : (n : ℕ) → ShapeFace (with_pause n f)
-  shape_with_pause n =
-      let x = s.front.fixed in
-      record {
-        front = record { fixed = record { cid = x.cid; cvc = x.cvc; seed = x.seed }; key = s.front.key };
-        held = s.held;
-        pending = s.pending;
-        last = s.last;
-      }
+  shape_with_pause n = search rules
 
   pub shape_with_flags : (x : Flags) → ShapeFace (with_flags x f)
-  shape_with_flags x = record { front = record { fixed = s.front.fixed; key = s.front.key }; held = s.held; pending = s.pending; last = s.last }
+  shape_with_flags x = search rules
 
   pub shape_with_wallet : (x : Wallet) → ShapeFace (with_wallet x f)
-  shape_with_wallet x = record { front = record { fixed = s.front.fixed; key = s.front.key }; held = s.held; pending = s.pending; last = s.last }
+  shape_with_wallet x = search rules
 
   pub shape_with_key : (x : Key) → length x.bytes ≡ key_room → ShapeFace (with_key x f)
-  shape_with_key x e = record { front = record { fixed = s.front.fixed; key = e }; held = s.held; pending = s.pending; last = s.last }
+  shape_with_key x e = search rules
 
   pub shape_with_counters : (x : Counters) → ShapeFace (with_counters x f)
-  shape_with_counters x = record { front = record { fixed = s.front.fixed; key = s.front.key }; held = s.held; pending = s.pending; last = s.last }
+  shape_with_counters x = search rules
 
   pub shape_with_user : (x : Block) → length x.bytes ≡ data_room → ShapeFace (with_user x f)
-  shape_with_user x e =
-      record { front = s.front; held = record { user = e; protected = s.held.protected; issuer = s.held.issuer }; pending = s.pending; last = s.last }
+  shape_with_user x e = search rules
 
   pub shape_with_protected : (x : Block) → length x.bytes ≡ data_room → ShapeFace (with_protected x f)
-  shape_with_protected x e =
-      record { front = s.front; held = record { user = s.held.user; protected = e; issuer = s.held.issuer }; pending = s.pending; last = s.last }
+  shape_with_protected x e = search rules
 
   pub shape_with_issuer : (x : Issuer) → ShapeIssuer x → ShapeFace (with_issuer x f)
-  shape_with_issuer x e =
-      record { front = s.front; held = record { user = s.held.user; protected = s.held.protected; issuer = e }; pending = s.pending; last = s.last }
+  shape_with_issuer x e = search rules
 
   pub shape_with_pending : (x : Pending) → length x.request ≡ held_room → ShapeFace (with_pending x f)
-  shape_with_pending x e = record { front = s.front; held = s.held; pending = e; last = s.last }
+  shape_with_pending x e = search rules
 
   pub shape_with_last : (x : Last) → length x.signatures ≡ last_room → ShapeFace (with_last x f)
-  shape_with_last x e = record { front = s.front; held = s.held; pending = s.pending; last = e }
+  shape_with_last x e = search rules
 
 -- A FRESH CARD
 pub shape_fresh : (x : Fixed) (g : Flags) (k : Codes) → ShapeFixed x → ShapeCodes k → Shape (fresh x g k)

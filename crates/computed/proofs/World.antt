@@ -15,6 +15,7 @@ use Rattle.image.proofs.Linked as image
 use Rattle.writing.proofs.Linked as writing
 use Rattle.sheet.proofs.Linked as sheet
 use Rattle.personalise.proofs.Linked as personalise
+use Rattle.manual.proofs.Linked as manual
 use Rattle.request.proofs.Linked as request
 use Rattle.reads.proofs.Linked as reads
 use Rattle.checks.proofs.Linked as checks
@@ -43,6 +44,7 @@ world =
     ∷ (codes "writing", writing.table)
     ∷ (codes "sheet", sheet.table)
     ∷ (codes "personalise", personalise.table)
+    ∷ (codes "manual", manual.table)
     ∷ (codes "request", request.table)
     ∷ (codes "reads", reads.table)
     ∷ (codes "checks", checks.table)
@@ -54,65 +56,60 @@ world =
     ∷ (codes "tells", tells.table)
     ∷ (codes "practice", practice.table) ∷ []
 
-wire_below : wire.Below world
-wire_below = tt
-
+-- what a crate calls outside of it stands in the world; wire, card and manual call nothing there
 fields_below : fields.Below world
-fields_below = search (wire.linked, wire_below, refl)
+fields_below = search (wire.linked)
 
 reader_below : reader.Below world
-reader_below = search (wire.linked, fields.linked, wire_below, fields_below, refl)
+reader_below = search (wire.linked, fields.linked, fields_below)
 
 sent_below : sent.Below world
-sent_below = search (wire.linked, fields.linked, reader.linked, wire_below, fields_below, reader_below, refl)
+sent_below = search (wire.linked, fields.linked, reader.linked, fields_below, reader_below)
 
 text_below : text.Below world
-text_below = search (wire.linked, wire_below, refl)
-
-card_below : card.Below world
-card_below = tt
+text_below = search (wire.linked)
 
 image_below : image.Below world
-image_below = search (wire.linked, wire_below, refl)
+image_below = search (wire.linked)
 
 writing_below : writing.Below world
-writing_below = search (wire.linked, wire_below, refl)
+writing_below = search (wire.linked)
 
 sheet_below : sheet.Below world
-sheet_below = search (wire.linked, text.linked, wire_below, text_below, refl)
+sheet_below = search (wire.linked, text.linked, text_below)
 
 personalise_below : personalise.Below world
-personalise_below = search (wire.linked, text.linked, card.linked, writing.linked, sheet.linked, wire_below, text_below, card_below, writing_below, sheet_below, refl)
+personalise_below = search (wire.linked, text.linked, card.linked, writing.linked, sheet.linked, text_below, writing_below, sheet_below)
 
 request_below : request.Below world
-request_below = search (wire.linked, sent.linked, wire_below, sent_below, refl)
+request_below = search (wire.linked, sent.linked, manual.linked, sent_below)
 
 reads_below : reads.Below world
-reads_below = search (sent.linked, sent_below, refl)
+reads_below = search (sent.linked, sent_below)
 
 checks_below : checks.Below world
-checks_below = search (wire.linked, sent.linked, image.linked, request.linked, wire_below, sent_below, image_below, request_below, refl)
+checks_below = search (wire.linked, sent.linked, image.linked, request.linked, sent_below, image_below, request_below)
 
 gate_below : gate.Below world
-gate_below = search (wire.linked, sent.linked, image.linked, request.linked, reads.linked, checks.linked, wire_below, sent_below, image_below, request_below, reads_below, checks_below, refl)
+gate_below = search (wire.linked, sent.linked, image.linked, request.linked, reads.linked, checks.linked, sent_below, image_below, request_below, reads_below, checks_below)
 
 delay_below : delay.Below world
-delay_below = search (wire.linked, sent.linked, card.linked, image.linked, checks.linked, wire_below, sent_below, card_below, image_below, checks_below, refl)
+delay_below = search (wire.linked, sent.linked, card.linked, image.linked, checks.linked, sent_below, image_below, checks_below)
 
 questions_below : questions.Below world
-questions_below = search (wire.linked, sent.linked, image.linked, request.linked, wire_below, sent_below, image_below, request_below, refl)
+questions_below = search (wire.linked, sent.linked, image.linked, request.linked, sent_below, image_below, request_below)
 
 answers_below : answers.Below world
-answers_below = search (wire.linked, sent.linked, image.linked, request.linked, wire_below, sent_below, image_below, request_below, refl)
+answers_below = search (wire.linked, sent.linked, image.linked, request.linked, sent_below, image_below, request_below)
 
 changes_below : changes.Below world
-changes_below = search (wire.linked, sent.linked, card.linked, image.linked, writing.linked, request.linked, wire_below, sent_below, card_below, image_below, writing_below, request_below, refl)
+changes_below = search (wire.linked, sent.linked, card.linked, image.linked, writing.linked, request.linked, sent_below, image_below, writing_below, request_below)
 
 tells_below : tells.Below world
-tells_below = search (wire.linked, fields.linked, sent.linked, image.linked, wire_below, fields_below, sent_below, image_below, refl)
+tells_below = search (wire.linked, fields.linked, sent.linked, image.linked, fields_below, sent_below, image_below)
 
 practice_below : practice.Below world
-practice_below = search (wire.linked, fields.linked, sent.linked, card.linked, image.linked, writing.linked, personalise.linked, request.linked, gate.linked, delay.linked, questions.linked, answers.linked, changes.linked, tells.linked, wire_below, fields_below, sent_below, card_below, image_below, writing_below, personalise_below, request_below, gate_below, delay_below, questions_below, answers_below, changes_below, tells_below, refl)
+practice_below = search (wire.linked, fields.linked, sent.linked, card.linked, image.linked, writing.linked, personalise.linked, request.linked, gate.linked, delay.linked, questions.linked, answers.linked, changes.linked, tells.linked, fields_below, sent_below, image_below, writing_below, personalise_below, request_below, gate_below, delay_below, questions_below, answers_below, changes_below, tells_below)
 
 pub ask_wired : Wired (tie_t (look_in practice_ask.code)) practice_ask.code
 ask_wired = wired_alone (in_world world) practice_ask.code (practice.has_practice_ask world refl practice_below)

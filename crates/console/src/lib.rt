@@ -1,4 +1,4 @@
-// What the programs share of reading, printing and failing, over std's traits. No function here takes memory.
+// What the programs share of reading, lines, printing and failing, over std's traits. No function here takes memory.
 #![tactic(auto)]
 
 ghost use Rattle.std.specs.Prelude.{◌≤◌, length, take};
@@ -7,6 +7,7 @@ ghost use Rattle.std.specs.Io.KnownBytes.{Consumes};
 use std::fmt::Display;
 use std::io;
 use std::io::{Cursor, Read, Write};
+use text::lines;
 
 // How much a program takes at a time.
 pub const READ_ROOM: usize = 65536;
@@ -27,7 +28,86 @@ pub fn read_full<R: Read>(from: &mut R, buf: &mut [u8]) -> usize
     done
 }
 
-// Prints bytes as they are. That a write failed is not told.
+// A read of standard input that failed, or a write to standard output.
+#[derive(Drop)]
+pub enum Failure {
+    Input(io::Error),
+    Output(io::Error),
+}
+
+// Hands on the bytes of standard input, each as soon as it has been read, until the input ends, a read fails or `take` does.
+pub fn each_byte<R: Read, F: FnMut(u8) -> Result<(), Failure>>(
+    from: &mut R,
+    mut take: F,
+) -> Result<(), Failure>
+    requires { F.IsAlwaysCallable take }
+{
+    let mut bytes = [0u8; READ_ROOM];
+    // Nothing says that an input ends, so the turns are counted, to a number that no run uses up.
+    for _ in 0..u64::MAX {
+        let n = from.read(&mut bytes).map_err(Failure::Input)?;
+        if n == 0 {
+            break;
+        }
+        for b in &bytes[..n] {
+            take(*b)?;
+        }
+    }
+    Ok(())
+}
+
+// Runs each line of an input that has its line feed, without it: of a line that is longer than the room in `held`, what it begins with.
+// A read that fails ends the input.
+pub fn each_line<R: Read, F: FnMut(&[u8])>(from: &mut R, held: &mut [u8], mut run: F)
+    requires { F.IsAlwaysCallable run }
+{
+    let mut bytes = [0u8; READ_ROOM];
+    let mut length = 0;
+    for _ in 0..u64::MAX {
+        let n = read_full(from, &mut bytes);
+        if n == 0 {
+            return;
+        }
+        for b in &bytes[..n] {
+            if *b == lines::LINE_FEED {
+                run(wire::part(held, 0, length));
+                length = 0;
+            } else {
+                length = wire::put8(held, length, *b);
+            }
+        }
+    }
+}
+
+// Runs each line of a text, without its line feed, and what stands after the last line feed, where anything does.
+pub fn each_line_of<F: FnMut(&[u8])>(text: &[u8], mut run: F)
+    requires { F.IsAlwaysCallable run }
+{
+    for line in text.split_inclusive(|b| *b == lines::LINE_FEED) {
+        run(lines::head_to(line, lines::LINE_FEED));
+    }
+}
+
+// The lines of a text that have their line feed.
+pub fn ended(text: &[u8]) -> &[u8] {
+    match text.iter().rposition(|b| *b == lines::LINE_FEED) {
+        Some(last) => &text[..last + 1],
+        None => &[],
+    }
+}
+
+// The bytes that capital hex digits spell, in the room that is lent; none where it is too small.
+pub fn unhex<'a>(digits: &[u8], room: &'a mut [u8]) -> &'a [u8] {
+    let n = text::unhex(digits, room, 0);
+    wire::part(room, 0, n)
+}
+
+// Prints bytes as they are.
+pub fn print<P: Print>(to: &P, bytes: &[u8]) -> Result<(), Failure> {
+    to.write_all(bytes).map_err(Failure::Output)
+}
+
+// The same, where nobody is told that a write failed.
 pub fn say<P: Print>(to: &P, bytes: &[u8]) {
     let _ = to.write_all(bytes);
 }
@@ -35,6 +115,18 @@ pub fn say<P: Print>(to: &P, bytes: &[u8]) {
 // The same of a number, in decimal.
 pub fn say_number<P: Print>(to: &P, n: usize) {
     let _ = to.print(n);
+}
+
+// How many bytes are spelt at a time.
+const HEX_ROOM: usize = 4096;
+
+// The same of bytes in capital hex.
+pub fn say_hex<P: Print>(to: &P, bytes: &[u8]) {
+    let mut digits = [0u8; 2 * HEX_ROOM];
+    for some in bytes.chunks(HEX_ROOM) {
+        let n = text::put_hex(&mut digits, 0, some);
+        say(to, wire::part(&digits, 0, n));
+    }
 }
 
 // The most bytes of an error's text.
@@ -96,6 +188,58 @@ mod tests {
         assert_eq!(rt; read_full(&mut breaking, &mut buf), 3);
         assert_eq!(rt; buf, *b"xyzd");
         assert_eq!(rt; read_full(&mut breaking, &mut buf), 0);
+    }
+
+    #[test]
+    fn hands_bytes_on_until_one_is_refused_or_a_read_fails(rt: HostRuntime) {
+        let mut input: &[u8] = b"abc";
+        let mut n = 0usize;
+        let all = each_byte(&mut input, |b| {
+            if b == b'c' {
+                return Err(Failure::Output(io::Error::other("refused")));
+            }
+            n = n.wrapping_add(1);
+            Ok(())
+        });
+        assert_eq!(rt; n, 2);
+        assert!(rt; matches!(all, Err(Failure::Output(_))));
+        let mut breaking = Breaking(b"xyz");
+        let mut m = 0usize;
+        let broken = each_byte(&mut breaking, |_| {
+            m = m.wrapping_add(1);
+            Ok(())
+        });
+        assert_eq!(rt; m, 3);
+        assert!(rt; matches!(broken, Err(Failure::Input(_))));
+    }
+
+    // The lengths of lines, a digit each.
+    #[derive(Clone, Copy)]
+    struct Lengths(usize);
+
+    impl Lengths {
+        fn with(self, line: &[u8]) -> Lengths {
+            Lengths(self.0.wrapping_mul(10).wrapping_add(line.len()))
+        }
+    }
+
+    #[test]
+    fn runs_the_lines_of_an_input_that_are_ended_and_cuts_long_ones(rt: HostRuntime) {
+        let mut input: &[u8] = b"ab\n\nabcdef\nxyz";
+        let mut held = [0u8; 4];
+        let mut lengths = Lengths(9);
+        each_line(&mut input, &mut held, |line| lengths = lengths.with(line));
+        assert_eq!(rt; lengths.0, 9204);
+    }
+
+    #[test]
+    fn runs_the_lines_of_a_text(rt: HostRuntime) {
+        let text = b"ab\n\nabcdef\nxyz";
+        let mut lengths = Lengths(9);
+        each_line_of(text, |line| lengths = lengths.with(line));
+        assert_eq!(rt; lengths.0, 92063);
+        assert_eq!(rt; ended(text).len(), 11);
+        assert_eq!(rt; ended(b"xyz").len(), 0);
     }
 
     #[test]

@@ -3,18 +3,10 @@
 #![tactic(auto)]
 
 use card::Codes;
-use text::lines;
-
-// The digits of a code and the line feed.
-const LINE_SIZE: usize = 65;
-
-fn print(rt: &impl Print, code: &[u8]) {
-    let mut line = [lines::LINE_FEED; LINE_SIZE];
-    text::put_hex(&mut line, 0, code);
-    console::say(rt, &line);
-}
 
 fn main(rt: HostRuntime) {
-    print(&rt, &Codes::DEFAULT_PIN1);
-    print(&rt, &Codes::DEFAULT_PIN2);
+    for code in [Codes::DEFAULT_PIN1, Codes::DEFAULT_PIN2] {
+        console::say_hex(&rt, &code);
+        console::say(&rt, b"\n");
+    }
 }

@@ -4,6 +4,7 @@ use Prim.Native.Nat.{ℕ}
 use mathlib.Core.Path.{◌≡◌, refl, ap, ◌∙◌}
 use mathlib.Core.List.{List}
 use mathlib.Core.Bool.{Bool, true, false, cond}
+use Rattle.std.specs.Prelude.{Ok, Err}
 use Rattle.fields.specs.Fields.{View}
 use Rattle.card.specs.declared.Pending.{Pending}
 use Rattle.card.specs.declared.Face.{Face}
@@ -12,10 +13,8 @@ use Rattle.manual.specs.Words.{sw_error_processing_command}
 use Rattle.manual.specs.declared.Command.{Command}
 use Rattle.manual.specs.declared.Command.TheVariants.{ReadCard, CreateWallet, CheckWallet, SetPin, Sign, VerifyCard, ValidateCard, PurgeWallet}
 use Rattle.manual.specs.declared.Command.TheVariants.{ReadUserData, WriteUserData, WriteIssuerData, ReadIssuerData, ActivateCard}
-use Rattle.manual.specs.declared.Verdict.{Verdict}
-use Rattle.manual.specs.declared.Verdict.TheVariants.{Pass, Stop}
 use Rattle.manual.specs.Request.{command}
-use Rattle.manual.specs.Row.{Row, Matched, shaped}
+use Rattle.manual.specs.Row.{Row, Matched, shaped, Verdict}
 use Rattle.manual.specs.Wallet.{is_new, count, signed_face}
 use Rattle.manual.specs.Commands.{row}
 use Rattle.manual.specs.Settle.{Said, sent_in, judged_by, judged, questions_of, done, refused, silent, answered, said_by, said}
@@ -96,16 +95,16 @@ module _ (p : Pending) (m : Matched) (f : Face) (q : List ℕ) where
   questions_blind d = ap (λ (g : Verdict). questions_of g (with_pending p f) q d) judged_blind ∙ go (judged m f q)
     where
       go : (g : Verdict) → questions_of g (with_pending p f) q d ≡ questions_of g f q d
-      go (Pass k) = (blind k).questions p f (sent_in q) d
-      go (Stop n w) = refl
+      go (Ok k) = (blind k).questions p f (sent_in q) d
+      go (Err e) = refl
 
   pub said_blind : (d a : List ℕ) → said m (with_pending p f) q d a ≡ bearing p (said m f q d a)
   unfolding said
   said_blind d a = ap (λ (g : Verdict). said_by g m (with_pending p f) q d a) judged_blind ∙ go (judged m f q)
     where
       go : (g : Verdict) → said_by g m (with_pending p f) q d a ≡ bearing p (said_by g m f q d a)
-      go (Pass k) = answered_blind (blind k) p m f (sent_in q) d a
-      go (Stop n w) = refl
+      go (Ok k) = answered_blind (blind k) p m f (sent_in q) d a
+      go (Err e) = refl
 
 -- and none of them changes it
 pub said_pending : (m : Matched) (f : Face) (q d a : List ℕ) → (said m f q d a).face.pending ≡ f.pending

@@ -1,17 +1,18 @@
 -- Laws of the field walk: what a step tells of its bounds, and the one equation that unfolds the run of fields, in which no count of turns is left;
 -- and of the writers. Assumes nothing.
-use Prim.Native.Nat.{ℕ, zero, suc, ◌+◌, ◌-◌, ◌≤◌, ◌<◌}
+use Prim.Native.Nat.{ℕ, zero, suc, ◌+◌, ◌-◌, ◌*◌, ◌≤◌, ◌<◌}
 use native.Mathlib.Omega.{arith}
 use mathlib.Core.Path.{◌≡◌, refl, sym, ap, ◌∙◌, subst}
 use mathlib.Core.List.{List, [], ◌∷◌, ◌++◌}
 use mathlib.Core.Bool.{Bool, true, false, cond}
-use lib.ListN.{length, get_or, length-append}
+use lib.ListN.{length, get_or, take, drop, length-append, length-drop}
+use lib.Seq.{get_or-drop, take_all}
 use lib.Dec.{leb, ltb, eqb}
 use borrow.Author.Tests.{leb-true, leb-false, le-leb, lt-leb, lt-ltb, le-ltb, eq-eqb, ne_eqb}
 use Rattle.fields.specs.declared.Step.{Step}
 use Rattle.fields.specs.declared.Step.TheVariants.{Field, Bad, End}
-use Rattle.fields.specs.declared.Found.TheVariants.{At}
-use Rattle.wire.specs.Wire.{room, Wrote, Runs, put, fit, placed, be2}
+use Rattle.std.specs.Prelude.{Some, None}
+use Rattle.wire.specs.Wire.{room, Wrote, put, fit, placed, be2}
 use Rattle.wire.proofs.Laws.{room_true, room_false, by_cases, runs, then, tested, refused, put_nil}
 use Rattle.fields.specs.Fields.{head_of, tlv, Tagged, each, field_at, step_at, Run, ended, broken, one, go_on, run_n, rest_from, first_in}
 
@@ -40,6 +41,53 @@ pub past : (s : List ℕ) (at : ℕ) → length s ≤ at → step_at s at ≡ En
 unfolding step_at
 past s at h = simp (le-leb _ _ h)
 
+-- what a step finds in the bytes that are left, as `&s[at..]` has them
+module _ (s : List ℕ) (at : ℕ) where
+  abbrev left : List ℕ
+  left = take (length s - at) (drop at s)
+
+  whole_left : left ≡ drop at s
+  whole_left = take_all (length s - at) (drop at s) (omega (arith, length-drop at s))
+
+  size : length left ≡ length s - at
+  size = ap length whole_left ∙ length-drop at s
+
+  byte : (i : ℕ) → get_or s (at + i) 0 ≡ get_or left i 0
+  byte i = sym (ap (λ l. get_or l i 0) whole_left ∙ get_or-drop at s i 0)
+
+  pub step_cut : at < length s → length left < 2 → step_at s at ≡ Bad
+  unfolding step_at
+  step_cut h k = simp (lt-leb (length s) at h, le-leb (length s) (at + 1) (omega (arith, size)))
+
+  pub step_short : 2 ≤ length left → get_or left 1 0 < 255 → step_at s at ≡ field_at s at (at + 2) (get_or left 1 0)
+  unfolding step_at
+  step_short h k =
+      simp (lt-leb (length s) at (omega (arith, size)), lt-leb (length s) (at + 1) (omega (arith, size)), byte 1, ne_eqb (get_or left 1 0) 255 (λ i. omega arith))
+
+  pub step_long_cut : 2 ≤ length left → length left < 4 → get_or left 1 0 ≡ 255 → step_at s at ≡ Bad
+  unfolding step_at
+  step_long_cut h k i =
+      simp (
+        lt-leb (length s) at (omega (arith, size)),
+        lt-leb (length s) (at + 1) (omega (arith, size)),
+        byte 1,
+        i,
+        le-leb (length s) (at + 3) (omega (arith, size)),
+      )
+
+  pub step_long : 4 ≤ length left → get_or left 1 0 ≡ 255 → step_at s at ≡ field_at s at (at + 4) (get_or left 2 0 * 256 + get_or left 3 0)
+  unfolding step_at
+  step_long h i =
+      simp (
+        lt-leb (length s) at (omega (arith, size)),
+        lt-leb (length s) (at + 1) (omega (arith, size)),
+        byte 1,
+        i,
+        lt-leb (length s) (at + 3) (omega (arith, size)),
+        byte 2,
+        byte 3,
+      )
+
 -- two ways to go on agree after a step, where they agree past it
 same_go_on : (s : List ℕ) (x : ℕ) (st : Step) → Bounds s x st → (k k' : ℕ → Run) → ((y : ℕ) → x < y → k y ≡ k' y) → go_on st k ≡ go_on st k'
 same_go_on s x (Field t b n y) f k k' h = ap (one (record { tag = t; start = b; len = n; next = y })) (h y (omega arith))
@@ -67,11 +115,19 @@ pub bounds_of : (s : List ℕ) (at : ℕ) {st : Step} → step_at s at ≡ st �
 bounds_of s at e = subst (Bounds s at) e (bounds s at)
 
 -- the two ways that a lookup meets a field
-pub hit : (t : ℕ) (s : List ℕ) (at : ℕ) {u b n x : ℕ} → step_at s at ≡ Field u b n x → u ≡ t → first_in t (rest_from s at) ≡ At b n
+pub hit : (t : ℕ) (s : List ℕ) (at : ℕ) {u b n x : ℕ} → step_at s at ≡ Field u b n x → u ≡ t → first_in t (rest_from s at) ≡ Some (b, n)
 hit t s at e h = ap (first_in t) (after s at e) ∙ simp (eq-eqb _ _ h)
 
 pub miss : (t : ℕ) (s : List ℕ) (at : ℕ) {u b n x : ℕ} → step_at s at ≡ Field u b n x → (u ≡ t → ⊥) → first_in t (rest_from s at) ≡ first_in t (rest_from s x)
 miss t s at e h = ap (first_in t) (after s at e) ∙ simp (ne_eqb _ _ h)
+
+pub over : (t : ℕ) (s : List ℕ) (at : ℕ) {st : Step} → step_at s at ≡ st → ((u b n x : ℕ) → st ≡ Field u b n x → ⊥) → first_in t (rest_from s at) ≡ None
+over t s at {st} = go st
+  where
+    go : (st : Step) → step_at s at ≡ st → ((u b n x : ℕ) → st ≡ Field u b n x → ⊥) → first_in t (rest_from s at) ≡ None
+    go (Field u b n x) e h = absurd (h u b n x refl)
+    go Bad e h = ap (first_in t) (after s at e)
+    go End e h = ap (first_in t) (after s at e)
 
 -- every value of a run starts past the payload's front and stands within it
 abbrev pub Within : List ℕ → Run → Type 0
@@ -126,14 +182,17 @@ unfolding each
 each_append [] gs = refl
 each_append (f ∷ fs) gs = ap (λ l. tlv f.tag f.value ∷ l) (each_append fs gs)
 
--- a field that was tested for room as a whole
-pub size_alike : (t n : ℕ) → length (head_of t n) ≡ length (head_of 0 n)
-unfolding head_of
-size_alike t n = refl
+-- a head and a value, tested for room as a whole
+pub both_wrote : {d : List ℕ} {at : ℕ} {h v d' : List ℕ} {r : ℕ} {d'' : List ℕ} {r' : ℕ} → room (length d) at (length h + length v) ≡ true
+    → Wrote d at h d' r → Wrote d' r v d'' r' → Wrote d at (h ++ v) d'' r'
+both_wrote {d} {at} {h} {v} e x y = tested (omega (arith, length-append h v, room_true (length d) at (length h + length v) e)) (then (runs x) (runs y))
+
+pub neither_wrote : {d : List ℕ} {at : ℕ} (h v : List ℕ) → room (length d) at (length h + length v) ≡ false → Wrote d at (h ++ v) d at
+neither_wrote {d} {at} h v e = refused (omega (arith, length-append h v, room_false (length d) at (length h + length v) e))
 
 pub empty_wrote : {d : List ℕ} {at : ℕ} {v : List ℕ} → v ≡ [] → Wrote d at v d at
 unfolding fit placed
-empty_wrote {d} {at} e = rw e (record { bytes = go (Rattle.wire.specs.Wire.room (length d) at 0); next = go₂ (Rattle.wire.specs.Wire.room (length d) at 0) })
+empty_wrote {d} {at} e = rw e (record { bytes = go (room (length d) at 0); next = go₂ (room (length d) at 0) })
   where
     go : (b : Bool) → d ≡ cond b (put d at []) d
     go true = put_nil d at
@@ -143,15 +202,11 @@ empty_wrote {d} {at} e = rw e (record { bytes = go (Rattle.wire.specs.Wire.room 
     go₂ true = omega arith
     go₂ false = refl
 
-module _ (t : ℕ) (v : List ℕ) (h : length v ≤ 65535) where
-  plain_length : length (tlv t v) ≡ length (head_of 0 (length v)) + length v
-  plain_length = ap length (tlv_plain t v h) ∙ length-append (head_of t (length v)) v ∙ ap (λ n. n + length v) (size_alike t (length v))
+pub tlv_short : (t : ℕ) (v : List ℕ) → length v < 255 → tlv t v ≡ (t ∷ length v ∷ []) ++ v
+tlv_short t v h = tlv_plain t v (omega arith) ∙ ap (λ l. l ++ v) (head_short t (length v) h)
 
-  pub whole_field : {d : List ℕ} {at : ℕ} → room (length d) at (length (head_of 0 (length v)) + length v) ≡ true → {d' : List ℕ} {r : ℕ} {d'' : List ℕ} {r' : ℕ}
-      → Wrote d at (head_of t (length v)) d' r → Wrote d' r v d'' r' → Wrote d at (tlv t v) d'' r'
-  whole_field {d} {at} e {d'} {r} {d''} {r'} x y =
-      tested (omega (arith, plain_length, room_true (length d) at (length (head_of 0 (length v)) + length v) e))
-      (subst (λ (l : List ℕ). Runs d at l d'' r') (sym (tlv_plain t v h)) (then (runs x) (runs y)))
+pub tlv_long : (t : ℕ) (v : List ℕ) → 255 ≤ length v → length v ≤ 65535 → tlv t v ≡ (t ∷ 255 ∷ be2 (length v)) ++ v
+tlv_long t v h k = tlv_plain t v k ∙ ap (λ l. l ++ v) (head_long t (length v) h)
 
-  pub no_field : {d : List ℕ} {at : ℕ} → room (length d) at (length (head_of 0 (length v)) + length v) ≡ false → Wrote d at (tlv t v) d at
-  no_field {d} {at} e = refused (omega (arith, plain_length, room_false (length d) at (length (head_of 0 (length v)) + length v) e))
+-- what a field is that can be written
+pub ruleset by_length = (tlv_short, tlv_long)

@@ -8,10 +8,11 @@ use mathlib.Core.Logic.{◌⊎◌, inl, inr}
 use mathlib.Core.Bool.{Bool, true, false, cond, not}
 use lib.Dec.{ltb, eqb}
 use borrow.Author.Tests.{ltb-false, eqb-false, eq-eqb, ne_eqb}
+use Rattle.fields.specs.declared.Step.{Step}
 use Rattle.fields.specs.declared.Times.{Times}
 use Rattle.fields.specs.declared.Times.TheVariants.{Twice}
-use Rattle.fields.specs.declared.Found.TheVariants.{At}
-use Rattle.fields.specs.declared.Step.TheVariants.{Field}
+use Rattle.std.specs.Prelude.{Some}
+use Rattle.fields.specs.declared.Step.TheVariants.{Field, Bad, End}
 use Rattle.fields.specs.Fields.{Item, Run, ended, broken, one, step_at, rest_from, first_in, found, copies, times_of, met}
 use Rattle.fields.proofs.Laws.{after}
 
@@ -43,9 +44,14 @@ meets {t} {s} {at} {n} {m} {u} {x = x} w e i = record {
       ∙ ap (λ k. times_of (k + copies t (rest_from s x))) (sym i);
 }
 
-pub all_met : {t : ℕ} {s : List ℕ} {at n : ℕ} (r : Run) {z : Times} → Met t s at n → rest_from s at ≡ r → copies t r ≡ 0 → z ≡ times_of n
-    → z ≡ times_of (copies t (rest_from s 0))
-all_met {t} {s} {at} {n} r w e o i = i ∙ sym (w.same ∙ ap (λ k. times_of (n + k)) (ap (copies t) e ∙ o) ∙ ap times_of (add-zero n))
+pub all_met : {t : ℕ} {s : List ℕ} {at n : ℕ} {st : Step} {z : Times} → Met t s at n → step_at s at ≡ st → ((u b l x : ℕ) → st ≡ Field u b l x → ⊥)
+    → z ≡ times_of n → z ≡ times_of (copies t (rest_from s 0))
+all_met {t} {s} {at} {n} {st} w e h i = i ∙ sym (w.same ∙ ap (λ k. times_of (n + k)) (none_left st e h) ∙ ap times_of (add-zero n))
+  where
+    none_left : (st : Step) → step_at s at ≡ st → ((u b l x : ℕ) → st ≡ Field u b l x → ⊥) → copies t (rest_from s at) ≡ 0
+    none_left (Field u b l x) e h = absurd (h u b l x refl)
+    none_left Bad e h = ap (copies t) (after s at e)
+    none_left End e h = ap (copies t) (after s at e)
 
 -- A FIELD OF A RUN
 abbrev pub Among : Item → Run → Type 0
@@ -61,15 +67,15 @@ counted f (one g r) (inl e) = let i : eqb g.tag f.tag ≡ true = eq-eqb _ _ (sym
 counted f (one g r) (inr a) = let h = counted f r a in omega (arith, h)
 
 -- where a tag stands once, every field with it is the first
-pub only_one : (f : Item) (r : Run) → copies f.tag r ≡ 1 → Among f r → first_in f.tag r ≡ At f.start f.len
+pub only_one : (f : Item) (r : Run) → copies f.tag r ≡ 1 → Among f r → first_in f.tag r ≡ Some (f.start, f.len)
 only_one f ended h a = elim a [ ]
 only_one f broken h a = elim a [ ]
 only_one f (one g r) h a = go (λ k b. only_one f r k b) (eqb g.tag f.tag) refl h a
   where
-    go : (copies f.tag r ≡ 1 → Among f r → first_in f.tag r ≡ At f.start f.len)
+    go : (copies f.tag r ≡ 1 → Among f r → first_in f.tag r ≡ Some (f.start, f.len))
         → (c : Bool) → eqb g.tag f.tag ≡ c → cond c 1 0 + copies f.tag r ≡ 1 → (f ≡ g) ⊎ Among f r
-        → cond c (At g.start g.len) (first_in f.tag r) ≡ At f.start f.len
-    go k true e h (inl i) = ap (λ (x : Item). At x.start x.len) (sym i)
+        → cond c (Some (g.start, g.len)) (first_in f.tag r) ≡ Some (f.start, f.len)
+    go k true e h (inl i) = ap (λ (x : Item). Some (x.start, x.len)) (sym i)
     go k true e h (inr b) = absurd (omega (arith, counted f r b))
     go k false e h (inl i) = absurd (eqb-false g.tag f.tag e (sym (ap (λ x. x.tag) i)))
     go k false e h (inr b) = let z : copies f.tag r ≡ 1 = omega (arith, h) in k z b
@@ -81,6 +87,6 @@ found_copies t broken = refl
 found_copies t (one f r) = go (found_copies t r) (eqb f.tag t)
   where
     go : found (first_in t r) ≡ not (eqb (copies t r) 0)
-        → (c : Bool) → found (cond c (At f.start f.len) (first_in t r)) ≡ not (eqb (cond c 1 0 + copies t r) 0)
+        → (c : Bool) → found (cond c (Some (f.start, f.len)) (first_in t r)) ≡ not (eqb (cond c 1 0 + copies t r) 0)
     go h true = let e : eqb (1 + copies t r) 0 ≡ false = ne_eqb (1 + copies t r) 0 (λ e. omega arith) in rw e
     go h false = let q : 0 + copies t r ≡ copies t r = omega arith in rw q h

@@ -13,10 +13,9 @@ use borrow.Author.Tests.{lt-leb, le-leb, ne_eqb}
 use Rattle.wire.specs.Wire.{part, joined, alike}
 use Rattle.wire.proofs.Laws.{part_plain}
 use Rattle.fields.specs.declared.Step.TheVariants.{Field}
-use Rattle.fields.specs.declared.Found.{Found}
-use Rattle.fields.specs.declared.Found.TheVariants.{At, Absent}
+use Rattle.std.specs.Prelude.{Some, None}
 use Rattle.fields.specs.Fields.{step_at, field_at, head_of, tlv, Tagged, each, written, among, copies_of, first_of, Writable, ended, go_on, rest_from, whole, first_in}
-use Rattle.fields.specs.Fields.{found, value_of, holds_at, copies, times_of, is_twice, view_of, has, val, holds, twice, well_formed}
+use Rattle.fields.specs.Fields.{Found, found, value_of, holds_at, copies, times_of, is_twice, view_of, has, val, holds, twice, well_formed}
 use Rattle.fields.proofs.Laws.{head_short, head_long, tlv_plain, past, after}
 
 -- the short form
@@ -137,17 +136,17 @@ whole_run [] x h = ap whole (no_run x)
 whole_run {s = s} {at = at} (f ∷ fs) x h = ap whole (first_run x h.0) ∙ whole_run {at = next at f} fs (others x) h.1
 
 -- a lookup asks whether the field is there, for its value, or both
-found_cond : (b : Bool) (i j : ℕ) (y : Found) → found (cond b (At i j) y) ≡ (b || found y)
+found_cond : (b : Bool) (i j : ℕ) (y : Found) → found (cond b (Some (i, j)) y) ≡ (b || found y)
 found_cond true i j y = refl
 found_cond false i j y = refl
 
-value_cond : (s : List ℕ) (b : Bool) (i j : ℕ) (y : Found) → value_of s (cond b (At i j) y) ≡ cond b (part s i j) (value_of s y)
+value_cond : (s : List ℕ) (b : Bool) (i j : ℕ) (y : Found) → value_of s (cond b (Some (i, j)) y) ≡ cond b (part s i j) (value_of s y)
 value_cond s true i j y = refl
 value_cond s false i j y = refl
 
 holds_both : (s : List ℕ) (y : Found) (code : List ℕ) → holds_at s y code ≡ (found y && alike (value_of s y) code)
-holds_both s (At i j) code = refl
-holds_both s Absent code = refl
+holds_both s (Some (i, j)) code = refl
+holds_both s None code = refl
 
 found_run : (t : ℕ) {s : List ℕ} {at : ℕ} (fs : List Tagged) → Stand s at fs → Writable fs → found (first_in t (rest_from s at)) ≡ among t fs
 found_run t [] x h = ap (λ r. found (first_in t r)) (no_run x)

@@ -1,13 +1,11 @@
 -- Fields, 01 "Requests and fields": what stands at a position, the run of fields from a position on, and a view of a payload: the first field with each
 -- tag, and how often the tag stands.
-use Rattle.std.specs.Prelude.{ℕ, zero, suc, ◌+◌, ◌-◌, ◌*◌, ◌≤◌, List, [], ◌∷◌, ◌++◌, Bool, true, false, cond, ◌||◌, length, get_or, ltb, leb, eqb}
+use Rattle.std.specs.Prelude.{ℕ, zero, suc, ◌+◌, ◌-◌, ◌*◌, ◌≤◌, List, [], ◌∷◌, ◌++◌, Bool, true, false, cond, ◌||◌, length, get_or, ltb, leb, eqb, Option, Some, None}
 use Rattle.wire.specs.Wire.{part, be2, alike, joined}
 use Rattle.fields.specs.declared.Step.{Step}
 use Rattle.fields.specs.declared.Step.TheVariants.{Field, Bad, End}
-use Rattle.fields.specs.declared.Found.{Found}
-use Rattle.fields.specs.declared.Found.TheVariants.{At, Absent}
 use Rattle.fields.specs.declared.Times.{Times}
-use Rattle.fields.specs.declared.Times.TheVariants.{Absent as Nowhere, Once, Twice}
+use Rattle.fields.specs.declared.Times.TheVariants.{Absent, Once, Twice}
 
 -- tag at `at`, value of n bytes from b: the field, or Bad where the value runs past the end
 unfoldable pub field_at : List ℕ → ℕ → ℕ → ℕ → Step
@@ -54,11 +52,14 @@ whole ended = true
 whole broken = false
 whole (one f r) = whole r
 
--- where the first value with the tag stands
+-- where the first value with the tag stands: its start and its length
+abbrev pub Found : Type 0
+Found = Option (ℕ × ℕ)
+
 abbrev pub first_in : ℕ → Run → Found
-first_in t ended = Absent
-first_in t broken = Absent
-first_in t (one f r) = cond (eqb f.tag t) (At f.start f.len) (first_in t r)
+first_in t ended = None
+first_in t broken = None
+first_in t (one f r) = cond (eqb f.tag t) (Some (f.start, f.len)) (first_in t r)
 
 -- HOW OFTEN a tag stands: the number of fields with it, and what is told of that number
 abbrev pub copies : ℕ → Run → ℕ
@@ -67,7 +68,7 @@ copies t broken = 0
 copies t (one f r) = cond (eqb f.tag t) 1 0 + copies t r
 
 abbrev pub times_of : ℕ → Times
-times_of n = cond (eqb n 0) Nowhere (cond (eqb n 1) Once Twice)
+times_of n = cond (eqb n 0) Absent (cond (eqb n 1) Once Twice)
 
 -- counted so far as it is told
 abbrev pub met : ℕ → ℕ → ℕ → ℕ
@@ -84,16 +85,16 @@ unfoldable pub view_of : List ℕ → View
 view_of p = record { bytes = p; at = λ t. first_in t (rest_from p 0); times = λ t. times_of (copies t (rest_from p 0)) }
 
 abbrev pub found : Found → Bool
-found Absent = false
-found (At b n) = true
+found None = false
+found (Some at) = true
 
 abbrev pub value_of : List ℕ → Found → List ℕ
-value_of s (At b n) = part s b n
-value_of s Absent = []
+value_of s (Some at) = part s at.0 at.1
+value_of s None = []
 
 abbrev pub holds_at : List ℕ → Found → List ℕ → Bool
-holds_at s (At b n) code = alike (part s b n) code
-holds_at s Absent code = false
+holds_at s (Some at) code = alike (part s at.0 at.1) code
+holds_at s None code = false
 
 -- the field with the tag: whether it is there, its value (nothing where it is absent), whether it is there and holds the code
 unfoldable pub has : ℕ → View → Bool
@@ -107,7 +108,7 @@ holds t v code = holds_at v.bytes (v.at t) code
 
 -- whether the tag stands twice, or more often
 abbrev pub is_twice : Times → Bool
-is_twice Nowhere = false
+is_twice Absent = false
 is_twice Once = false
 is_twice Twice = true
 

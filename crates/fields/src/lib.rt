@@ -2,12 +2,12 @@
 // how often the tag stands, the writer; all total.
 #![tactic(auto)]
 
-ghost use Rattle.std.specs.Prelude.{◌≡◌, ◌≤◌, ◌<◌, length};
+ghost use Rattle.std.specs.Prelude.{◌≡◌, ◌≤◌, ◌<◌, ◌++◌, length};
 ghost use Rattle.wire.specs.Wire.{Wrote, be1, be2, be4};
-ghost use Rattle.fields.specs.Fields.{step_at, field_at, rest_from, first_in, copies, times_of, met, head_of, tlv};
+ghost use Rattle.fields.specs.Fields.{step_at, field_at, rest_from, first_in, copies, times_of, met, tlv};
 
-// What stands at a position of a payload.
-#[derive(Drop)]
+// What stands at a position of a payload: three things, so that neither an Option nor a Result says it.
+#[derive(Clone, Copy)]
 pub enum Step {
     Field {
         tag: u8,
@@ -19,29 +19,22 @@ pub enum Step {
     End,
 }
 
-// Where the first value with a tag stands: its start and its length.
-#[derive(Drop)]
-pub enum Found {
-    At(usize, usize),
-    Absent,
-}
-
 // How often a tag stands in a payload; Twice is two times or more.
-#[derive(Drop)]
+#[derive(Clone, Copy)]
 pub enum Times {
     Absent,
     Once,
     Twice,
 }
 
-// The field whose tag stands at `at` and whose value starts at b and has n bytes.
+// The field whose tag stands at `at`, and whose value starts at b and has n bytes.
+#[tactic(auto, unfolding(crate::specs::Fields::field_at))]
 fn field_at(s: &[u8], at: usize, b: usize, n: usize) -> Step
     requires { (at < length s.now) × (b ≤ length s.now) × (n < 65536) }
     ensures { result ≡ field_at s.now at b n }
 {
-    let size = s.len();
     let next = b + n;
-    if next <= size {
+    if next <= s.len() {
         Step::Field {
             tag: s[at],
             start: b,
@@ -59,72 +52,48 @@ pub fn step_at(s: &[u8], at: usize) -> Step
     if s.len() <= at {
         return Step::End;
     }
-    let l = at + 1;
-    if s.len() <= l {
-        return Step::Bad;
+    match &s[at..] {
+        [_, n, ..] if *n < 255 => field_at(s, at, at + 2, *n as usize),
+        [_, _, high, low, ..] => field_at(s, at, at + 4, *high as usize * 256 + *low as usize),
+        _ => Step::Bad,
     }
-    let n = s[l] as usize;
-    if n != 255 {
-        return field_at(s, at, at + 2, n);
-    }
-    let low = at + 3;
-    if s.len() <= low {
-        return Step::Bad;
-    }
-    let m = (s[at + 2] as usize) * 256 + (s[low] as usize);
-    field_at(s, at, at + 4, m)
 }
 
-// The first field with the tag, by a walk of its own.
-pub fn find(s: &[u8], tag: u8) -> Found
+// Where the first value with the tag stands, its start and its length, by a walk of its own.
+pub fn find(s: &[u8], tag: u8) -> Option<(usize, usize)>
     ensures { result ≡ first_in tag (rest_from s.now 0) }
 {
     let mut at = 0;
-    loop {
-        match step_at(s, at) {
-            Step::Field {
-                tag: t,
-                start,
-                len,
-                next,
-            } => {
-                if t == tag {
-                    return Found::At(start, len);
-                }
-                at = next;
-            }
-            Step::Bad => {
-                return Found::Absent;
-            }
-            Step::End => {
-                return Found::Absent;
-            }
+    while let Step::Field {
+        tag: t,
+        start,
+        len,
+        next,
+    } = step_at(s, at)
+    {
+        if t == tag {
+            return Some((start, len));
         }
+        at = next;
     }
+    None
 }
 
 // One field more is met: of two and more nothing else is told.
 fn meet(n: usize, t: u8, tag: u8) -> usize
     ensures { result ≡ met n t tag }
 {
-    if t == tag {
-        if n < 2 {
-            return n + 1;
-        }
-    }
-    n
+    if t == tag && n < 2 { n + 1 } else { n }
 }
 
 fn told(n: usize) -> Times
     ensures { result ≡ times_of n }
 {
-    if n == 0 {
-        return Times::Absent;
+    match n {
+        0 => Times::Absent,
+        1 => Times::Once,
+        _ => Times::Twice,
     }
-    if n == 1 {
-        return Times::Once;
-    }
-    Times::Twice
 }
 
 // How often the tag stands, by a walk of its own.
@@ -133,82 +102,55 @@ pub fn stands(s: &[u8], tag: u8) -> Times
 {
     let mut at = 0;
     let mut n = 0;
-    loop {
-        match step_at(s, at) {
-            Step::Field {
-                tag: t,
-                start: _,
-                len: _,
-                next,
-            } => {
-                n = meet(n, t, tag);
-                at = next;
-            }
-            Step::Bad => {
-                return told(n);
-            }
-            Step::End => {
-                return told(n);
-            }
-        }
+    while let Step::Field { tag: t, next, .. } = step_at(s, at) {
+        n = meet(n, t, tag);
+        at = next;
     }
+    told(n)
 }
 
-// Tag and length.
-fn put_head(out: &mut [u8], at: usize, tag: u8, n: u16) -> usize
-    ensures { Wrote out.old at (head_of tag n) out.new result }
+// A head and a value, both or neither.
+fn put_both(out: &mut [u8], at: usize, head: &[u8], v: &[u8]) -> usize
+    ensures { Wrote out.old at (head.now ++ v.now) out.new result }
 {
-    if n < 255 {
-        let b = [tag, n as u8];
-        return wire::put_bytes(out, at, &b);
+    if !wire::has_room(out.len(), at, head.len() + v.len()) {
+        return at;
     }
-    let b = [tag, 255, (n / 256) as u8, (n % 256) as u8];
-    wire::put_bytes(out, at, &b)
-}
-
-fn head_size(n: usize) -> usize
-    ensures { result ≡ length (head_of 0 n) }
-{
-    if n < 255 { 2 } else { 4 }
+    let b = wire::put_bytes(out, at, head);
+    wire::put_bytes(out, b, v)
 }
 
 // A field: tag, length in the short form where it fits, value.
+#[tactic(auto, using(crate::proofs::Laws::by_length))]
 pub fn put_field(out: &mut [u8], at: usize, tag: u8, v: &[u8]) -> usize
     ensures { Wrote out.old at (tlv tag v.now) out.new result }
 {
     let n = v.len();
-    if 65535 < n {
-        return at;
+    if n < 255 {
+        put_both(out, at, &[tag, n as u8], v)
+    } else if n < 65536 {
+        let [high, low] = wire::be2(n as u16);
+        put_both(out, at, &[tag, 255, high, low], v)
+    } else {
+        at
     }
-    if wire::has_room(out.len(), at, head_size(n) + n) {
-        let b = put_head(out, at, tag, n as u16);
-        return wire::put_bytes(out, b, v);
-    }
-    at
 }
 
+// A number as a field, a function for each width: what they share is put_field, and a trait with its bytes for each would be longer.
 pub fn put_byte(out: &mut [u8], at: usize, tag: u8, x: u8) -> usize
     ensures { Wrote out.old at (tlv tag (be1 x)) out.new result }
 {
-    let b = [x];
-    put_field(out, at, tag, &b)
+    put_field(out, at, tag, &[x])
 }
 
 pub fn put_short(out: &mut [u8], at: usize, tag: u8, x: u16) -> usize
     ensures { Wrote out.old at (tlv tag (be2 x)) out.new result }
 {
-    let b = [(x / 256) as u8, (x % 256) as u8];
-    put_field(out, at, tag, &b)
+    put_field(out, at, tag, &wire::be2(x))
 }
 
 pub fn put_number(out: &mut [u8], at: usize, tag: u8, x: u32) -> usize
     ensures { Wrote out.old at (tlv tag (be4 x)) out.new result }
 {
-    let b = [
-        (x / 16777216) as u8,
-        (x / 65536 % 256) as u8,
-        (x / 256 % 256) as u8,
-        (x % 256) as u8,
-    ];
-    put_field(out, at, tag, &b)
+    put_field(out, at, tag, &wire::be4(x))
 }

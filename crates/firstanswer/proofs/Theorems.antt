@@ -24,7 +24,7 @@ pub good_answer :
     ≡ settled (holding (encode (sheet_card s)))
     (settle_call (first_request (sheet_codes s).pin1) (replicate draw_size 0) [] (replicate response_room 0) (replicate image_room 0))
     → first_parts s ≡ hex_of (part out 0 r.length) ∷ feed ∷ []
-good_answer s e p = sym (good_line_lem s e) ∙ ap (λ v. hex_of v ∷ feed ∷ []) (sym (response_is (encode (sheet_card s)) (sheet_codes s).pin1 refl p refl))
+good_answer s e p = sym (good_line_lem s e) ∙ ap (λ v. hex_of v ∷ feed ∷ []) (sym (response_is _ _ refl refl p refl))
 
 pub bad_answer : (s : List ℕ) → (first_bad s ≡ 0 → ⊥) → first_parts s ≡ ascii "line" ∷ tab ∷ decimal_of (first_bad s) ∷ feed ∷ []
 bad_answer s h = sym (bad_line s h)

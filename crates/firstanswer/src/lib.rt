@@ -2,14 +2,14 @@
 // sheet's first bad line.
 #![tactic(auto)]
 
-ghost use Rattle.std.specs.Prelude.{◌≡◌, [], ◌∷◌, length};
+ghost use Rattle.std.specs.Prelude.{◌≡◌, [], ◌∷◌};
 ghost use Rattle.wire.specs.Wire.{Wrotes};
 ghost use Rattle.text.specs.Text.{hex_of};
-ghost use Rattle.card.specs.Layout.{pin_size};
+ghost use Rattle.card.specs.Image.{encode};
 ghost use Rattle.printing.specs.Printing.{feed};
 ghost use Rattle.firstanswer.specs.First.{first_request, first_response, first_parts};
 
-use card::{Codes, layout};
+use card::{Card, Codes, layout};
 use manual::tag;
 use text::lines;
 
@@ -28,22 +28,25 @@ const FIELD_SIZE: usize = 2 + Codes::PIN_SIZE;
 
 const REQUEST_SIZE: usize = 5 + FIELD_SIZE;
 
-fn put_request(pin: &[u8], out: &mut [u8])
-    requires { (length pin.now ≡ pin_size) × (length out.old ≡ length (first_request pin.now)) }
-    ensures { out.new ≡ first_request pin.now }
-{
-    let head = [0x00, READ_CARD, 0x00, 0x00, FIELD_SIZE as u8];
-    let at = wire::put_bytes(out, 0, &head);
-    fields::put_field(out, at, tag::PIN1, pin);
-}
-
-// The line of READ_CARD's response, for a card's image and under a PIN1.
-fn put_response(image: &[u8], pin: &[u8], out: &mut [u8]) -> usize
-    requires { length pin.now ≡ pin_size }
-    ensures { Wrotes out.old 0 (hex_of (first_response image.now pin.now) ∷ feed ∷ []) out.new result }
+#[tactic(auto, using(crate::proofs::Laws::request_written))]
+fn request(pin: &[u8; Codes::PIN_SIZE]) -> [u8; REQUEST_SIZE]
+    ensures { result ≡ first_request pin.now }
 {
     let mut request = [0u8; REQUEST_SIZE];
-    put_request(pin, &mut request);
+    let head = [0x00, READ_CARD, 0x00, 0x00, FIELD_SIZE as u8];
+    let at = wire::put_bytes(&mut request, 0, &head);
+    fields::put_field(&mut request, at, tag::PIN1, pin);
+    request
+}
+
+// READ_CARD's response for a card, under its PIN1, as a line.
+fn put_response(card: Card, out: &mut [u8]) -> usize
+    ensures { Wrotes out.old 0 (hex_of (first_response (encode card) card.codes.pin1) ∷ feed ∷ []) out.new result }
+{
+    let mut image = [0u8; layout::IMAGE_ROOM];
+    writing::write(card, &mut image);
+    let image = &image[..layout::IMAGE_SIZE];
+    let request = request(&card.codes.pin1);
     let draw = [0u8; manual::DRAW_SIZE];
     let mut response = [0u8; manual::RESPONSE_ROOM];
     let mut next = [0u8; layout::IMAGE_ROOM];
@@ -53,14 +56,12 @@ fn put_response(image: &[u8], pin: &[u8], out: &mut [u8]) -> usize
 }
 
 // Writes the line that is printed for a sheet at the front of the buffer, and returns its length. A part without room is left out.
+#[tactic(auto, unfolding(crate::specs::First::first_parts, sheet::specs::Sheet::some_line, personalise::specs::Personalise::sheet_card, card::specs::Values::fresh))]
 pub fn answer(sheet: &[u8], out: &mut [u8]) -> usize
     ensures { Wrotes out.old 0 (first_parts sheet.now) out.new result }
 {
-    let mut fresh = [0u8; layout::IMAGE_ROOM];
-    let bad = personalise::personalise(sheet, &mut fresh);
-    if bad != 0 {
-        return printing::put_bad(out, bad);
+    match sheet::first_bad(sheet) {
+        Some(line) => printing::put_bad(out, line),
+        None => put_response(personalise::card_of(sheet), out),
     }
-    let image = wire::part(&fresh, 0, layout::IMAGE_SIZE);
-    put_response(image, image::pin1(image), out)
 }

@@ -1,4 +1,5 @@
 -- THE BYTES THAT ARE PRINTED for a good sheet: 01, "The personalisation sheet", and F2 of "The commands". Assumes nothing.
+use Rattle.std.specs.Prelude.{Some, Ok}
 use Prim.Native.Nat.{ℕ, ◌≤◌}
 use native.Mathlib.Omega.{arith}
 use mathlib.Core.Path.{◌≡◌, refl, sym, ap, ◌∙◌}
@@ -22,8 +23,6 @@ use Rattle.personalise.specs.Personalise.{sheet_codes, sheet_fixed, sheet_flags,
 use Rattle.personalise.proofs.Laws.{sheet_shape}
 use Rattle.sheets_back.proofs.Good.{sheet_is_card}
 use Rattle.manual.specs.declared.Command.TheVariants.{ReadCard}
-use Rattle.manual.specs.declared.Lc.TheVariants.{Body}
-use Rattle.manual.specs.declared.Verdict.TheVariants.{Pass}
 use Rattle.manual.specs.declared.Pace.TheVariants.{Goes}
 use Rattle.manual.specs.Words.{sw_process_completed, response_room, draw_size}
 use Rattle.manual.specs.Tags.{PIN1}
@@ -39,14 +38,14 @@ use Rattle.firstanswer.specs.First.{first_request, first_settled, first_response
 use Rattle.firstanswer.proofs.Laws.{field_size, request_size, pin_size_lem, good_line_lem}
 
 -- CHECK 1: Lc is one byte, and the request ends at the payload's end
-lc_is : (q : List ℕ) → length q ≡ 39 → get_or q 4 0 ≡ 34 → lc_of q ≡ Body 5
+lc_is : (q : List ℕ) → length q ≡ 39 → get_or q 4 0 ≡ 34 → lc_of q ≡ Some 5
 unfolding lc_of
 lc_is q e f = rw (e, f)
 
 -- CHECKS 2 to 12 of READ_CARD on a card that is Empty, from the bytes before the payload, its form, and its PIN1, once
 passes :
-    (q : List ℕ) (v : View) (m : Matched) (f : Face) → lc_of q ≡ Body 5 → get_or q 0 0 ≡ 0 → get_or q 1 0 ≡ code ReadCard → get_or q 2 0 ≡ 0 → get_or q 3 0 ≡ 0
-    → twice PIN1 v ≡ false → m.pin1 ≡ true → f.front.wallet.status ≡ 1 → judged_by true v m f q ≡ Pass ReadCard
+    (q : List ℕ) (v : View) (m : Matched) (f : Face) → lc_of q ≡ Some 5 → get_or q 0 0 ≡ 0 → get_or q 1 0 ≡ code ReadCard → get_or q 2 0 ≡ 0 → get_or q 3 0 ≡ 0
+    → twice PIN1 v ≡ false → m.pin1 ≡ true → f.front.wallet.status ≡ 1 → judged_by true v m f q ≡ Ok ReadCard
 unfolding judged_by plain allowed ins_of
 passes q v m f l a b c d o p s = rw (l, a, b, c, d, o, p, s)
 
@@ -58,7 +57,7 @@ module _ (pin : List ℕ) (h : length pin ≡ pin_size) where
   unfolding first_request
   fourth = field_size pin h
 
-  lc : lc_of (first_request pin) ≡ Body 5
+  lc : lc_of (first_request pin) ≡ Some 5
   lc = lc_is (first_request pin) (request_size pin h) fourth
 
   body_is : drop 5 (first_request pin) ≡ written sent
@@ -86,7 +85,7 @@ module _ (pin : List ℕ) (h : length pin ≡ pin_size) where
     abbrev q : List ℕ
     q = first_request pin
 
-    verdict_is : judged (matched c.codes (sent_in q)) c.face q ≡ Pass ReadCard
+    verdict_is : judged (matched c.codes (sent_in q)) c.face q ≡ Ok ReadCard
     unfolding first_request
     verdict_is =
         ap (λ b. judged_by b (sent_in q) (matched c.codes (sent_in q)) c.face q) formed

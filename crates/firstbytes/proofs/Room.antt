@@ -12,7 +12,7 @@ use Rattle.wire.proofs.Laws.{by_cases, all_run, front}
 use Rattle.fields.specs.Fields.{written}
 use Rattle.text.specs.Text.{hex_of}
 use Rattle.text.specs.Lines.{start_of, from_line}
-use Rattle.text.proofs.Laws.{length_hex_of}
+use Rattle.text.proofs.Laws.{length_hex_of, ten_digits}
 use Rattle.card.specs.Values.{fresh}
 use Rattle.sheet.specs.Sheet.{pause_row, optional, sheet_lines, row_of, good_line, bad_after, bad_from, first_bad}
 use Rattle.personalise.specs.Personalise.{sheet_codes, sheet_card}
@@ -22,7 +22,7 @@ use Rattle.manual.specs.Words.{sw_process_completed, response_room, draw_size}
 use Rattle.manual.specs.Settle.{sent_in}
 use Rattle.facts.proofs.Facts.{facts, small_shape, tells}
 use Rattle.printing.specs.Printing.{feed, bad_text}
-use Rattle.printing.proofs.Laws.{ten_digits, bad_short}
+use Rattle.printing.proofs.Laws.{bad_short}
 use Rattle.firstanswer.specs.First.{first_request, first_parts, first_line}
 use Rattle.firstanswer.proofs.Laws.{bad_line}
 use Rattle.firstbytes.specs.Bytes.{fresh_fields, line_room}

@@ -6,11 +6,11 @@ use mathlib.Core.List.{List, [], ◌∷◌}
 use mathlib.Core.Bool.{Bool, true, false, ◌&&◌, ◌||◌}
 use lib.Dec.{eqb}
 use borrow.Author.Tests.{eq-eqb, eqb-true}
+use Rattle.std.specs.Prelude.{Result, Ok, Err}
 pub use Rattle.wire.proofs.Laws.{by_cases, both_true}
 use Rattle.manual.specs.declared.Command.{Command}
 use Rattle.manual.specs.declared.Command.TheVariants.{ReadCard, CreateWallet, CheckWallet, SetPin, Sign, PurgeWallet, WriteIssuerData, ActivateCard}
-use Rattle.manual.specs.declared.Ins.{Ins}
-use Rattle.manual.specs.declared.Ins.TheVariants.{Listed, Unlisted}
+use Rattle.manual.specs.declared.Unlisted.{Unlisted}
 use Rattle.manual.specs.Request.{code, commands, listed_in, ins_of, listed, command_of, command}
 use Rattle.history.specs.Demands.{is_card_kind, may_ask}
 use Rattle.story.specs.Sums.{Tap, tap, accepted, ins, did, uses_wallet}
@@ -27,9 +27,9 @@ or_other true b e h = refl
 or_other false b e h = clash e h
 
 -- A REQUEST FOR A COMMAND has its INS; READ_CARD stands for what is not listed too
-abbrev Known : ℕ → Ins → Type 0
-Known i (Listed k) = i ≡ code k
-Known i Unlisted = Unit {0}
+abbrev Known : ℕ → Result Command Unlisted → Type 0
+Known i (Ok k) = i ≡ code k
+Known i (Err e) = Unit {0}
 
 known : (ks : List Command) (i : ℕ) → Known i (listed_in ks i)
 known [] i = tt
@@ -39,12 +39,12 @@ pub listed_ins : (q : List ℕ) → listed (ins_of (ins q)) ≡ true → ins q �
 unfolding ins_of
 listed_ins q = go (ins_of (ins q)) (known commands (ins q))
   where
-    go : (z : Ins) → Known (ins q) z → listed z ≡ true → ins q ≡ code (command_of z)
-    go (Listed k) h e = h
-    go Unlisted h e = clash e refl
+    go : (z : Result Command Unlisted) → Known (ins q) z → listed z ≡ true → ins q ≡ code (command_of z)
+    go (Ok k) h e = h
+    go (Err _) h e = clash e refl
 
 -- of a command that is listed, and is not READ_CARD
-module _ (k : Command) (listed : listed_in commands (code k) ≡ Listed k) where
+module _ (k : Command) (listed : listed_in commands (code k) ≡ Ok k) where
   pub by_ins : (q : List ℕ) → ins q ≡ code k → command q ≡ k
   unfolding ins_of
   by_ins q e = ap (λ i. command_of (ins_of i)) e ∙ ap command_of listed
@@ -53,9 +53,9 @@ module _ (k : Command) (listed : listed_in commands (code k) ≡ Listed k) where
   unfolding ins_of
   ins_is other q = go (eqb (ins q) (code k)) refl
     where
-      unlike : (z : Ins) → Known (ins q) z → eqb (ins q) (code k) ≡ false → eqb (code (command_of z)) (code k) ≡ false
-      unlike (Listed j) h e = ap (λ i. eqb i (code k)) (sym h) ∙ e
-      unlike Unlisted h e = other
+      unlike : (z : Result Command Unlisted) → Known (ins q) z → eqb (ins q) (code k) ≡ false → eqb (code (command_of z)) (code k) ≡ false
+      unlike (Ok j) h e = ap (λ i. eqb i (code k)) (sym h) ∙ e
+      unlike (Err _) h e = other
 
       go : (b : Bool) → eqb (ins q) (code k) ≡ b → b ≡ eqb (code (command q)) (code k)
       go true e = sym (ap (λ j. eqb (code j) (code k)) (by_ins q (eqb-true (ins q) (code k) e)) ∙ eq-eqb (code k) (code k) refl)

@@ -3,10 +3,9 @@ use Prim.Native.Nat.{ℕ}
 use mathlib.Core.Path.{◌≡◌, refl}
 use mathlib.Core.List.{List}
 use mathlib.Core.Bool.{true}
+use Rattle.std.specs.Prelude.{Some, None}
 use Rattle.wire.specs.Wire.{alike}
-use Rattle.fields.specs.declared.Found.{Found}
-use Rattle.fields.specs.declared.Found.TheVariants.{At, Absent}
-use Rattle.fields.specs.Fields.{View, has, val, holds, found, value_of, holds_at}
+use Rattle.fields.specs.Fields.{View, has, val, holds, found, value_of, holds_at, Found}
 use Rattle.card.specs.declared.Codes.{Codes}
 use Rattle.card.specs.declared.Face.{Face}
 use Rattle.manual.specs.declared.Command.{Command}
@@ -25,10 +24,10 @@ unfolding has val holds
 same_holds t v w h code = go (v.at t) (w.at t) h.0 h.1
   where
     go : (f g : Found) → found f ≡ found g → value_of v.bytes f ≡ value_of w.bytes g → holds_at v.bytes f code ≡ holds_at w.bytes g code
-    go (At b n) (At c m) e i = λ j. alike (i j) code
-    go (At b n) Absent e i = clash refl e
-    go Absent (At c m) e i = clash e refl
-    go Absent Absent e i = refl
+    go (Some x) (Some y) e i = λ j. alike (i j) code
+    go (Some x) None e i = clash refl e
+    go None (Some y) e i = clash e refl
+    go None None e i = refl
 
 pub record Reads (r : Row) (v w : View) : Type 0 where
   pub pin1 : SameField PIN1 v w

@@ -8,6 +8,7 @@ use mathlib.Core.Bool.{Bool, true, false, cond, not, ◌||◌}
 use lib.ListN.{length}
 use lib.Dec.{ltb, eqb}
 use borrow.Author.Tests.{le-ltb}
+use Rattle.std.specs.Prelude.{Ok}
 use Rattle.fields.specs.Fields.{holds, well_formed, written}
 use Rattle.card.specs.declared.Face.{Face}
 use Rattle.card.specs.declared.Card.{Card}
@@ -18,11 +19,9 @@ use Rattle.manual.specs.Words.{sw_invalid_params, sw_invalid_status, sw_need_pau
 use Rattle.manual.specs.Tags.{CVC}
 use Rattle.manual.specs.declared.Command.{Command}
 use Rattle.manual.specs.declared.Command.TheVariants.{WriteIssuerData}
-use Rattle.manual.specs.declared.Verdict.{Verdict}
-use Rattle.manual.specs.declared.Verdict.TheVariants.{Pass, Stop}
 use Rattle.manual.specs.declared.Outcome.{Outcome}
 use Rattle.manual.specs.Request.{command, payload}
-use Rattle.manual.specs.Row.{Matched, Question, Rule, rule, gate_of, asks_cvc, head_rules, form_rules, entry_rules, rules, passed}
+use Rattle.manual.specs.Row.{Matched, Question, Rule, rule, gate_of, asks_cvc, head_rules, form_rules, entry_rules, rules, passed, Verdict, stop}
 use Rattle.manual.specs.Storage.{guarded, sent_counter, write_issuer_data}
 use Rattle.manual.specs.Commands.{row}
 use Rattle.manual.specs.Delay.{pace_by, pause_fields}
@@ -96,13 +95,13 @@ old_note = every (λ f. (m : State) (i : Call) → protected m.image ≡ true �
 
 -- A NOTE THAT IS RIGHT IN ALL BUT ITS COUNTER, so that the old practice card took it, gets 6985 by check 12, and nothing else, where it need not wait
 last_fails :
-    (rs : List Rule) (g : Verdict) {k : Command} (w : ℕ) → gate_of (rs ++ (rule 12 true w ∷ [])) g ≡ Pass k
-    → gate_of (rs ++ (rule 12 false w ∷ [])) g ≡ Stop 12 w
+    (rs : List Rule) (g : Verdict) {k : Command} (w : ℕ) → gate_of (rs ++ (rule 12 true w ∷ [])) g ≡ Ok k
+    → gate_of (rs ++ (rule 12 false w ∷ [])) g ≡ stop 12 w
 last_fails [] g w = λ e. refl
 last_fails (r ∷ rs) g {k} w = go r.ok (last_fails rs g w)
   where
-    go : {x y : Verdict} (b : Bool) → (x ≡ Pass k → y ≡ Stop 12 w) → cond b x (Stop r.check r.word) ≡ Pass k
-        → cond b y (Stop r.check r.word) ≡ Stop 12 w
+    go : {x y : Verdict} (b : Bool) → (x ≡ Ok k → y ≡ stop 12 w) → cond b x (stop r.check r.word) ≡ Ok k
+        → cond b y (stop r.check r.word) ≡ stop 12 w
     go true f e = f e
     go false f e = let z : ◌≡◌ {A = ℕ} 0 1 = cc in absurd (omega arith)
 
@@ -122,13 +121,13 @@ module _ (c : Card) (q d a : List ℕ) where
 
   late_verdict :
       guarded c.face ≡ true → command q ≡ WriteIssuerData → sent_counter (sent_in q) ≤ c.face.held.issuer.counter → {k : Command}
-      → rows_judge old_rows c q ≡ Pass k → judged m c.face q ≡ Stop 12 sw_invalid_status
+      → rows_judge old_rows c q ≡ Ok k → judged m c.face q ≡ stop 12 sw_invalid_status
   unfolding judged_by
   late_verdict g e l t =
       let n = c.face.held.issuer.counter in
       let x : ltb n (sent_counter (sent_in q)) ≡ false = le-ltb n (sent_counter (sent_in q)) l in
       let o : write_issuer_data.conditions m c.face (sent_in q) ≡ false = rw (g, x) refl in
-      let y : gate_of (others ++ (rule 12 true sw_invalid_status ∷ [])) (passed q) ≡ Pass _ =
+      let y : gate_of (others ++ (rule 12 true sw_invalid_status ∷ [])) (passed q) ≡ Ok _ =
       ap (λ j. gate_of (rules (old_rows j) m c.face (well_formed (payload q)) (sent_in q) q) (passed q)) (sym e) ∙ t in
       ap (λ j. gate_of (rules (row j) m c.face (well_formed (payload q)) (sent_in q) q) (passed q)) e
       ∙ ap (λ b. gate_of (others ++ (rule 12 b sw_invalid_status ∷ [])) (passed q)) o
@@ -136,13 +135,13 @@ module _ (c : Card) (q d a : List ℕ) where
 
   -- what the card says to what check 12 refuses, where it need not wait
   late_card :
-      judged m c.face q ≡ Stop 12 sw_invalid_status → wait_of c q ≡ 0 → paced_to c q d a ≡ refused 12 sw_invalid_status (with_pending no_pending c.face)
+      judged m c.face q ≡ stop 12 sw_invalid_status → wait_of c q ≡ 0 → paced_to c q d a ≡ refused 12 sw_invalid_status (with_pending no_pending c.face)
   unfolding paced pace_of pace_by said
   late_card z w = rw (z, w, z) refl
 
 pub late_note :
     (f : AnyCard) → Demand2 f → (s : State) (i : Call) → protected s.image ≡ true → NoteUpTo (note_counter s.image) i → settle_stop s i ≡ 0
-    → wait_of (decode s.image) i.request ≡ 0 → {k : Command} → rows_judge old_rows (decode s.image) i.request ≡ Pass k
+    → wait_of (decode s.image) i.request ≡ 0 → {k : Command} → rows_judge old_rows (decode s.image) i.request ≡ Ok k
     → (f.taps.settle s i).result ≡ outcome 0 12 sw_invalid_status 2
 unfolding settled_of lent
 late_note f h s i g n e w t =

@@ -22,12 +22,10 @@ use Rattle.kept.proofs.Waits.{no_pending_ok}
 use Rattle.manual.specs.Words.{sw_process_completed, sw_error_processing_command, sw_need_pause, sw_wrong_length, sw_need_encryption, sw_invalid_status}
 use Rattle.manual.specs.Words.{sw_invalid_params, sw_ins_not_supported, sw_cla_not_supported}
 use Rattle.manual.specs.Tags.{CVC}
-use Rattle.manual.specs.declared.Verdict.{Verdict}
-use Rattle.manual.specs.declared.Verdict.TheVariants.{Stop}
 use Rattle.manual.specs.declared.Pace.{Pace}
 use Rattle.manual.specs.declared.Pace.TheVariants.{Refused, Waits, Goes}
 use Rattle.manual.specs.Request.{command, listed, ins_of}
-use Rattle.manual.specs.Row.{Matched, Question, shaped, Row, Rule, gate_of, single, allowed, asks_cvc, passed}
+use Rattle.manual.specs.Row.{Matched, Question, shaped, Row, Rule, gate_of, single, allowed, asks_cvc, passed, Verdict, stop}
 use Rattle.manual.specs.Commands.{row}
 use Rattle.manual.specs.Delay.{seconds, pace_for, pace_by, pending_after, pause_fields}
 use Rattle.manual.specs.Settle.{sent_in, judged_by, judged, Said, silent, refused, done, answered, said_by, said}
@@ -138,7 +136,7 @@ not_pause n w e =
 -- the first check to fail refuses, or every rule holds
 by_rules :
     (P : Verdict → Type 0) (b : ℕ) (rs : List Rule) (g : Verdict) → refusals b rs ≡ true
-    → ((n w : ℕ) → is_refusal n w ≡ true → is_done w ≡ false → FirstFails n rs → P (Stop n w)) → (Every rs → P g) → P (gate_of rs g)
+    → ((n w : ℕ) → is_refusal n w ≡ true → is_done w ≡ false → FirstFails n rs → P (stop n w)) → (Every rs → P g) → P (gate_of rs g)
 by_rules P b [] g x no_way yes_way = yes_way tt
 by_rules P b (r ∷ rs) g x no_way yes_way =
     let y = (both_true (leb b r.check) (is_refusal r.check r.word && refusals r.check rs) x).1 in
@@ -168,7 +166,7 @@ pub record Passed (r : Row) (m : Matched) (f : Face) (v : View) : Type 0 where
 
 module _ (r : Row) (m : Matched) (f : Face) (q : List ℕ) where
   pub by_checks :
-      (P : Verdict → Type 0) → ((n w : ℕ) → is_refusal n w ≡ true → is_done w ≡ false → FirstFails n (checks_of r m f q) → P (Stop n w))
+      (P : Verdict → Type 0) → ((n w : ℕ) → is_refusal n w ≡ true → is_done w ≡ false → FirstFails n (checks_of r m f q) → P (stop n w))
       → (Every (checks_of r m f q) → P (passed q)) → P (gate_of (checks_of r m f q) (passed q))
   by_checks P = by_rules P 0 (checks_of r m f q) (passed q) refl
 
@@ -207,7 +205,7 @@ pub record Stopped (m : Matched) (f : Face) (q : List ℕ) (n w : ℕ) : Type 0 
   pub word : is_refusal n w ≡ true
   pub not_done : is_done w ≡ false
   pub first : FirstFails n (checks_of (row (command q)) m f q)
-  pub verdict : judged m f q ≡ Stop n w
+  pub verdict : judged m f q ≡ stop n w
   pub goes : leb 11 n ≡ true → seconds (row (command q)) f (sent_in q) q ≡ 0
 
 -- all of them hold, and it need not wait
@@ -263,13 +261,13 @@ module _ (P : Said → ℕ → ℕ → List Question → Type 0) (m : Matched) (
       subst (λ s. P s (paced_reason p g) (paced_word p g) (paced_questions p g f q d)) (sym (paced_as p m f q d a))
       (by_checks r m f q (λ z. g ≡ z → By (pace_by z r m f v q) z)
       (λ n w x e h u.
-      let stop : (leb 11 n ≡ true → seconds r f v q ≡ 0) → P (refused n w (with_pending (resting r m f v n) f)) n w [] =
+      let stopped : (leb 11 n ≡ true → seconds r f v q ≡ 0) → P (refused n w (with_pending (resting r m f v n) f)) n w [] =
       λ y. no_way n w (record { word = x; not_done = e; first = h; verdict = u; goes = y }) in
-      by_cases (λ p. By p (Stop n w)) (leb 11 n)
+      by_cases (λ p. By p (stop n w)) (leb 11 n)
       (λ l.
-      by_wait (Stop n w) (λ j k. h.before j (omega (arith, k, leb-true 11 n l))) waits
-      (λ y. subst (λ z. P (refused n w (with_pending z f)) n w []) (rw l refl) (stop (λ _. y))))
-      (λ l. subst (λ z. P (refused n w (with_pending z f)) n w []) (rw l refl) (stop (λ y. clash y l))))
+      by_wait (stop n w) (λ j k. h.before j (omega (arith, k, leb-true 11 n l))) waits
+      (λ y. subst (λ z. P (refused n w (with_pending z f)) n w []) (rw l refl) (stopped (λ _. y))))
+      (λ l. subst (λ z. P (refused n w (with_pending z f)) n w []) (rw l refl) (stopped (λ y. clash y l))))
       (λ h k.
       let b = all_hold (checks_of r m f q) h in
       by_wait (passed q) (λ j _. b j) waits

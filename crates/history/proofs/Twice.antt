@@ -8,6 +8,7 @@ use mathlib.Core.Bool.{Bool, true, false, cond, not, ◌&&◌, ◌||◌}
 use lib.ListN.{length, get_or}
 use lib.Dec.{leb, eqb}
 use borrow.Author.Tests.{leb-true, leb-false, eqb-true, not-true}
+use Rattle.std.specs.Prelude.{Ok}
 use Rattle.fields.specs.Fields.{View, rest_from, copies, times_of, is_twice, twice, view_of, holds, well_formed}
 use Rattle.fields.proofs.Often.{many}
 use Rattle.card.specs.declared.Codes.{Codes}
@@ -19,12 +20,10 @@ use Rattle.card.specs.Valid.{is_card}
 use Rattle.manual.specs.Words.{sw_invalid_params, sw_invalid_status, questions_room, draw_size}
 use Rattle.manual.specs.Tags.{CID, PIN1, PIN2, CVC, NewPIN1, NewPIN2, ResetPIN1, TransactionHash, TransactionHashSize}
 use Rattle.manual.specs.declared.Command.{Command}
-use Rattle.manual.specs.declared.Verdict.{Verdict}
-use Rattle.manual.specs.declared.Verdict.TheVariants.{Pass, Stop}
 use Rattle.manual.specs.declared.Pace.{Pace}
 use Rattle.manual.specs.declared.Pace.TheVariants.{Refused, Waits, Goes}
 use Rattle.manual.specs.Request.{lc_of, fits, ins_of, listed, command, payload}
-use Rattle.manual.specs.Row.{Matched, Question, asked, Row, Rule, rule, gate_of, plain, single, allowed, asks_cvc, rules}
+use Rattle.manual.specs.Row.{Matched, Question, asked, Row, Rule, rule, gate_of, plain, single, allowed, asks_cvc, rules, Verdict, stop}
 use Rattle.manual.specs.Wallet.{create_wallet, set_pin, sign}
 use Rattle.manual.specs.Activation.{activate_card}
 use Rattle.manual.specs.Commands.{row}
@@ -182,7 +181,7 @@ module _ (r : Row) (x : Codes) (f : Face) where
 
   same_wrong :
       (v w : View) → Reads r v w → (k : Command)
-      → wrong_code r (matched x v) v (gate_of (later_of v) (Pass k)) ≡ wrong_code r (matched x w) w (gate_of (later_of v) (Pass k))
+      → wrong_code r (matched x v) v (gate_of (later_of v) (Ok k)) ≡ wrong_code r (matched x w) w (gate_of (later_of v) (Ok k))
   same_wrong v w h k =
       let P : Verdict → Type 0 = λ z. wrong_code r (matched x v) v z ≡ wrong_code r (matched x w) w z in
       let ten = same_ten (r.pin2 v) (holds PIN2 v x.pin2) (r.pin2 w) (holds PIN2 w x.pin2) h.asks_pin2
@@ -215,7 +214,7 @@ module _ (r : Row) (x : Codes) (f : Face) where
   same_done v w d a h = rw (h.questions f d, h.more x, h.next f a, h.fields_out (r.next f w a) d a) refl
 
 -- a judgement refuses, or hands on the command
-refuses_or : (P : Verdict → Type 0) (g : Verdict) → ((n w : ℕ) → P (Stop n w)) → P g → (rs : List Rule) → P (gate_of rs g)
+refuses_or : (P : Verdict → Type 0) (g : Verdict) → ((n w : ℕ) → P (stop n w)) → P g → (rs : List Rule) → P (gate_of rs g)
 refuses_or P g no_way yes_way [] = yes_way
 refuses_or P g no_way yes_way (r ∷ rs) = by_cases P r.ok (λ _. refuses_or P g no_way yes_way rs) (λ _. no_way r.check r.word)
 
@@ -246,24 +245,24 @@ module _ (s : State) (i : Call) (q : List ℕ) (b : Beside s i q) where
   left = later_of (row k) c.codes c.face v
 
   abbrev z : Verdict
-  z = gate_of left (Pass k)
+  z = gate_of left (Ok k)
 
   first : judged x c.face i.request ≡ z
   unfolding judged_by
-  first = judged_later (row k) c.codes c.face i.request (Pass k) (opened s i b.first)
+  first = judged_later (row k) c.codes c.face i.request (Ok k) (opened s i b.first)
 
   second : judged y c.face q ≡ z
   unfolding judged_by
   second =
-      judged_later (row (command q)) c.codes c.face q (Pass (command q)) (opened s (sending q i) b.second)
-      ∙ ap (λ j. gate_of (later_of (row j) c.codes c.face w) (Pass j)) b.same
-      ∙ ap (λ j. gate_of j (Pass k)) (sym (same_rules (row k) c.codes c.face v w h))
+      judged_later (row (command q)) c.codes c.face q (Ok (command q)) (opened s (sending q i) b.second)
+      ∙ ap (λ j. gate_of (later_of (row j) c.codes c.face w) (Ok j)) b.same
+      ∙ ap (λ j. gate_of j (Ok k)) (sym (same_rules (row k) c.codes c.face v w h))
 
   says_alike : said y c.face q i.draw i.answers ≡ said x c.face i.request i.draw i.answers
   unfolding said
   says_alike =
       ap (λ j. said_by j y c.face q i.draw i.answers) second
-      ∙ refuses_or (λ j. said_by j y c.face q i.draw i.answers ≡ said_by j x c.face i.request i.draw i.answers) (Pass k)
+      ∙ refuses_or (λ j. said_by j y c.face q i.draw i.answers ≡ said_by j x c.face i.request i.draw i.answers) (Ok k)
       (λ n w. refl) (sym (same_done (row k) c.codes c.face v w i.draw i.answers h)) left
       ∙ ap (λ j. said_by j x c.face i.request i.draw i.answers) (sym first)
 
@@ -295,7 +294,7 @@ module _ (s : State) (i : Call) (q : List ℕ) (b : Beside s i q) where
 
     asks_alike : questions_of z c.face q i.draw ≡ questions_of z c.face i.request i.draw
     asks_alike =
-        refuses_or (λ y. questions_of y c.face q i.draw ≡ questions_of y c.face i.request i.draw) (Pass k) (λ n w. refl)
+        refuses_or (λ y. questions_of y c.face q i.draw ≡ questions_of y c.face i.request i.draw) (Ok k) (λ n w. refl)
         (sym (h.questions c.face i.draw)) left
 
     asks_paced : (p : Pace) → paced_questions p z c.face q i.draw ≡ paced_questions p z c.face i.request i.draw

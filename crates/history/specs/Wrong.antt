@@ -1,6 +1,6 @@
 -- WRONG CARDS, 01 "How much a promise has to say", and others that a tired or a clever engineer might write. crates/rejected shows each rejected, by
 -- the demand named here alone. Assumes nothing.
-use Rattle.std.specs.Prelude.{ℕ, ◌+◌, ◌-◌, List, [], ◌∷◌, ◌++◌, Bool, true, false, cond, ◌&&◌, length, drop, replicate, leb, eqb}
+use Rattle.std.specs.Prelude.{ℕ, ◌+◌, ◌-◌, List, [], ◌∷◌, ◌++◌, Bool, true, false, cond, ◌&&◌, length, drop, replicate, leb, eqb, Ok, Err}
 use Rattle.wire.specs.Wire.{be2}
 use Rattle.fields.specs.Fields.{View, val, well_formed, Tagged}
 use Rattle.card.specs.declared.Codes.{Codes}
@@ -14,14 +14,12 @@ use Rattle.card.specs.Values.{u32, reset_pin1, risen, no_pending, held_key, held
 use Rattle.manual.specs.Words.{sw_process_completed, sw_invalid_status, questions_room, draw_size}
 use Rattle.manual.specs.declared.Command.{Command}
 use Rattle.manual.specs.declared.Command.TheVariants.{ReadCard, SetPin, Sign, VerifyCard, PurgeWallet, WriteIssuerData, ActivateCard}
-use Rattle.manual.specs.declared.Verdict.{Verdict}
-use Rattle.manual.specs.declared.Verdict.TheVariants.{Pass, Stop}
 use Rattle.manual.specs.declared.Pace.{Pace}
 use Rattle.manual.specs.declared.Pace.TheVariants.{Refused, Waits, Goes}
 use Rattle.manual.specs.declared.Outcome.{Outcome}
 use Rattle.manual.specs.Request.{code, command, payload}
 use Rattle.manual.specs.Tags.{Challenge}
-use Rattle.manual.specs.Row.{Matched, Question, question, asked, Row, gate_of, rules, passed}
+use Rattle.manual.specs.Row.{Matched, Question, question, asked, Row, gate_of, rules, passed, Verdict, stop}
 use Rattle.manual.specs.Wallet.{read_card, sign, purge_wallet, purged_face, read_fields, is_new, count, new_codes}
 use Rattle.manual.specs.Checking.{verify_card, salt}
 use Rattle.manual.specs.Storage.{write_issuer_data}
@@ -92,12 +90,12 @@ abbrev pub paced_by : (Command → Row) → Card → List ℕ → Pace
 paced_by r c q = pace_by (judged_by r c q) (r (command q)) (matched c.codes (sent_in q)) c.face (sent_in q) q
 
 abbrev pub asks_by : (Command → Row) → Verdict → Card → List ℕ → List ℕ → List Question
-asks_by r (Stop n w) c q d = []
-asks_by r (Pass k) c q d = (r k).questions c.face (sent_in q) d
+asks_by r (Err e) c q d = []
+asks_by r (Ok k) c q d = (r k).questions c.face (sent_in q) d
 
 abbrev pub says_by : (Command → Row) → Verdict → Card → List ℕ → List ℕ → List ℕ → Said
-says_by r (Stop n w) c q d a = refused n w c.face
-says_by r (Pass k) c q d a = answered (r k) (matched c.codes (sent_in q)) c.face (sent_in q) d a
+says_by r (Err e) c q d a = refused e.check e.word c.face
+says_by r (Ok k) c q d a = answered (r k) (matched c.codes (sent_in q)) c.face (sent_in q) d a
 
 abbrev pub leaves_by : (Command → Row) → Card → List ℕ → Said → Card
 leaves_by r c q s = record { face = s.face; codes = cond s.executed ((r (command q)).recode (sent_in q) c.codes) c.codes }
@@ -121,7 +119,7 @@ abbrev pub refuser : AnyCard
 refuser =
     outside
     (record {
-      verdict = λ c q. Stop 12 sw_invalid_status;
+      verdict = λ c q. stop 12 sw_invalid_status;
       pace = λ c q. Goes;
       asks = λ c q d. [];
       says = λ c q d a. refused 12 sw_invalid_status c.face;
@@ -266,7 +264,7 @@ notary = outside (by_rows (but VerifyCard (with_questions (λ f v d. sign.questi
 
 -- 15. ASK SAYS 1234, whatever it is asked (demand 1)
 abbrev pub babbler : AnyCard
-babbler = outside (record { verdict = λ c q. Stop 12 0x1234; pace = λ c q. Goes; asks = λ c q d. []; says = honest.says; leaves = honest.leaves })
+babbler = outside (record { verdict = λ c q. stop 12 0x1234; pace = λ c q. Goes; asks = λ c q d. []; says = honest.says; leaves = honest.leaves })
 
 -- 16. SETTLE SAYS NUMBER 4, whatever it is answered (demand 1)
 abbrev pub stubborn : AnyCard
@@ -278,8 +276,8 @@ inventor = outside (record { verdict = honest.verdict; pace = honest.pace; asks 
 
 -- 18. KEEPS THE REASON TO ITSELF (demands 1 and 2), all else being right, as the card did until it told one
 abbrev pub hushed : Verdict → Verdict
-hushed (Pass k) = Pass k
-hushed (Stop n w) = Stop 0 w
+hushed (Ok k) = Ok k
+hushed (Err e) = stop 0 e.word
 
 abbrev pub quietly : Said → Said
 quietly s = record { number = s.number; reason = 0; word = s.word; response = s.response; face = s.face; executed = s.executed }

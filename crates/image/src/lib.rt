@@ -1,17 +1,15 @@
 // The image of a card, docs/IMAGE.md: its values, read where they stand, and whether it is a card. Total: what bytes spell is read
 // from any bytes, and a value past their end is 0 or nothing.
-#![tactic(auto)]
+#![tactic(auto, unfolding(card::specs::Image::decode, card::specs::Values::key_of, card::specs::Values::block_of, card::specs::Values::request_of, card::specs::Values::last_of))]
 
 mod valid;
 
 ghost use Rattle.std.specs.Prelude.{◌≡◌};
-ghost use Rattle.wire.specs.Wire.{verdict};
 ghost use Rattle.card.specs.Values.{key_of, block_of, request_of, last_of};
 ghost use Rattle.card.specs.Image.{dec_block, decode};
 ghost use Rattle.card.specs.Valid.{is_card};
 
 use card::{Block, Codes, Counters, Fixed, Flags, Key, Last, Pending, Wait, Wallet, layout};
-use wire::Check;
 
 pub fn pin1(img: &[u8]) -> &[u8]
     ensures { result.now ≡ (decode img.now).codes.pin1 }
@@ -170,11 +168,7 @@ pub fn held(img: &[u8]) -> &[u8]
     ensures { result.now ≡ request_of (decode img.now).face.pending }
 {
     let room = wire::part(img, layout::PENDING_AT + 4, Pending::ROOM);
-    wire::part(
-        room,
-        0,
-        wire::get16(img, layout::PENDING_AT as u16 + 2) as usize,
-    )
+    wire::part(room, 0, wait(img).size as usize)
 }
 
 // How many last signatures there are.
@@ -188,19 +182,13 @@ pub fn last(img: &[u8]) -> &[u8]
     ensures { result.now ≡ last_of (decode img.now).face.last }
 {
     let room = wire::part(img, layout::LAST_AT + 1, Last::ROOM);
-    wire::part(
-        room,
-        0,
-        wire::get8(img, layout::LAST_AT as u32) as usize * Last::SIGNATURE_SIZE,
-    )
+    wire::part(room, 0, last_count(img) as usize * Last::SIGNATURE_SIZE)
 }
 
 // Number 1 of ask and settle: whether the image is a card.
-pub fn is_card(img: &[u8]) -> Check
-    ensures { result ≡ verdict (is_card img.now) }
+#[tactic(auto, unfolding(card::specs::Valid::is_card))]
+pub fn is_card(img: &[u8]) -> bool
+    ensures { result ≡ is_card img.now }
 {
-    if img.len() == layout::IMAGE_SIZE {
-        return wire::checked(valid::face_ok(img));
-    }
-    Check::Failed
+    img.len() == layout::IMAGE_SIZE && valid::face_ok(img)
 }

@@ -1,114 +1,108 @@
 // When an image is a card, 01 "What the card is made of": the tests of that sentence, a function for each group of values, each where
 // it stands.
-ghost use Rattle.std.specs.Prelude.{◌≡◌, cond, ◌&&◌, ◌||◌, eqb};
+ghost use Rattle.std.specs.Prelude.{◌≡◌, ◌||◌, drop};
+ghost use Rattle.wire.specs.Wire.{all_zero};
 ghost use Rattle.card.specs.declared.Fixed.{Fixed};
-ghost use Rattle.card.specs.Layout.{user_at, protected_at};
 ghost use Rattle.card.specs.Image.{decode, dec_wallet, dec_key, dec_block, dec_issuer, dec_pending, dec_last, dec_held, dec_front};
 ghost use Rattle.card.specs.Valid.{key_size, ok_flags, ok_ranges, ok_state, ok_key, ok_block, ok_issuer, ok_pending, ok_last, is_idle, is_holding, last_owned, ok_front, ok_held, ok_face};
 
 use card::{Block, Fixed, Flags, Key, Last, Pending, Wait, Wallet, layout};
 
 // Every flag is 0 or 1.
+#[tactic(auto, unfolding(card::specs::Valid::ok_flags))]
 fn flags_ok(x: Flags) -> bool
     ensures { result ≡ ok_flags x }
 {
-    let last = wire::both(x.replay <= 1, x.active <= 1);
-    let pins = wire::both(
-        x.setpin1 <= 1,
-        wire::both(x.setpin2 <= 1, wire::both(x.nopurge <= 1, last)),
-    );
-    wire::both(x.reusable <= 1, wire::both(x.usecvc <= 1, pins))
+    x.reusable <= 1
+        && x.usecvc <= 1
+        && x.setpin1 <= 1
+        && x.setpin2 <= 1
+        && x.nopurge <= 1
+        && x.replay <= 1
+        && x.active <= 1
 }
 
 // Curve, Max_Signatures and Status are known ones; Remaining is at most Max, and 0 unless Loaded.
+#[tactic(auto, unfolding(card::specs::Valid::ok_ranges))]
 fn ranges_ok(curve: u8, max: u32, w: Wallet) -> bool
     ensures { (x : Fixed) → x.curve ≡ curve → x.max ≡ max → result ≡ ok_ranges x w }
 {
-    let known = wire::either(curve == Fixed::SECP256K1, curve == Fixed::ED25519);
-    let begun = wire::either(w.status == Wallet::LOADED, w.status == Wallet::PURGED);
-    let status = wire::either(w.status == Wallet::EMPTY, begun);
-    let idle = wire::either(w.status == Wallet::LOADED, w.remaining == 0);
-    let counts = wire::both(status, wire::both(w.remaining <= max, idle));
-    wire::both(known, wire::both(1 <= max, counts))
-}
-
-// The wallet number that a card has that is not reusable.
-fn only_number(status: u8) -> u16
-    ensures { result ≡ cond (eqb status 1) 0 1 }
-{
-    if status == Wallet::EMPTY {
-        return 0;
-    }
-    1
+    matches!(curve, Fixed::SECP256K1 | Fixed::ED25519)
+        && 1 <= max
+        && matches!(w.status, Wallet::EMPTY | Wallet::LOADED | Wallet::PURGED)
+        && w.remaining <= max
+        && (w.status == Wallet::LOADED || w.remaining == 0)
 }
 
 // The wallet number fits Status and the flags; Purged only when not reusable; not activated, Empty with number 0.
+#[tactic(auto, unfolding(card::specs::Valid::ok_state))]
 fn state_ok(x: Flags, w: Wallet) -> bool
     ensures { result ≡ ok_state x w }
 {
     let empty = w.status == Wallet::EMPTY;
-    let asleep = wire::either(x.active == 1, wire::both(empty, w.number == 0));
-    let again = wire::either(
-        x.reusable == 0,
-        wire::either(empty, w.status == Wallet::LOADED),
-    );
-    let once = wire::either(x.reusable == 1, w.number == only_number(w.status));
-    let begun = wire::either(empty, 1 <= w.number);
-    wire::both(begun, wire::both(once, wire::both(again, asleep)))
+    let only_number = if empty { 0 } else { 1 };
+    (empty || 1 <= w.number)
+        && (x.reusable == 1 || w.number == only_number)
+        && (x.reusable == 0 || empty || w.status == Wallet::LOADED)
+        && (x.active == 1 || (empty && w.number == 0))
 }
 
 // The size of a key that is present exactly when Loaded.
+#[tactic(auto, unfolding(card::specs::Valid::key_size))]
 fn key_size(curve: u8, status: u8) -> usize
     ensures { result ≡ key_size curve status }
 {
-    if status == Wallet::LOADED {
-        if curve == Fixed::SECP256K1 {
-            return Key::ROOM;
-        }
-        return Key::SHORT;
+    if status != Wallet::LOADED {
+        0
+    } else if curve == Fixed::SECP256K1 {
+        Key::ROOM
+    } else {
+        Key::SHORT
     }
-    0
+}
+
+// Unused room is zero. A room that is all unused has a call of its own: of that one the compiler knows where it begins and ends, and
+// takes it without a loop.
+fn clear_after(room: &[u8], used: usize) -> bool
+    ensures { result ≡ all_zero (drop used room.now) }
+{
+    if used == 0 {
+        wire::zero_from(room, 0)
+    } else {
+        wire::zero_from(room, used)
+    }
 }
 
 // A key of 65 bytes starts with 04; unused room is zero.
+#[tactic(auto, unfolding(card::specs::Valid::ok_key))]
 fn key_ok(curve: u8, status: u8, img: &[u8]) -> bool
     ensures { result ≡ ok_key curve status (dec_key img.now) }
 {
     let size = wire::get8(img, layout::KEY_AT as u32) as usize;
     let bytes = wire::part(img, layout::KEY_AT + 1, Key::ROOM);
-    let start = wire::either(wire::unless(size == Key::ROOM), wire::get8(bytes, 0) == 4);
-    wire::both(
-        size == key_size(curve, status),
-        wire::both(start, wire::zero_from(bytes, size)),
-    )
+    size == key_size(curve, status)
+        && (size != Key::ROOM || wire::get8(bytes, 0) == 4)
+        && clear_after(bytes, size)
 }
 
 // Data of 0 to 512 bytes; unused room is zero.
+#[tactic(auto, unfolding(card::specs::Valid::ok_block))]
 fn block_ok(img: &[u8], at: u16) -> bool
     ensures { result ≡ ok_block (dec_block at img.now) }
 {
     let size = wire::get16(img, at) as usize;
     let bytes = wire::part(img, at as usize + 2, Block::ROOM);
-    if size <= Block::ROOM {
-        return wire::zero_from(bytes, size);
-    }
-    false
+    size <= Block::ROOM && clear_after(bytes, size)
 }
 
 // While no data is held, the signature is zero too.
+#[tactic(auto, unfolding(card::specs::Image::decode, card::specs::Valid::ok_issuer))]
 fn issuer_ok(img: &[u8]) -> bool
     ensures { result ≡ ok_issuer (dec_issuer img.now) }
 {
     let at = layout::ISSUER_AT as u16;
-    if 1 <= wire::get16(img, at) {
-        return block_ok(img, at);
-    }
-    let signature = wire::part(
-        img,
-        layout::ISSUER_AT + layout::BLOCK_WIDTH,
-        Last::SIGNATURE_SIZE,
-    );
-    wire::both(block_ok(img, at), wire::zero_from(signature, 0))
+    block_ok(img, at)
+        && (1 <= wire::get16(img, at) || wire::zero_from(crate::note_signature(img), 0))
 }
 
 // A request of 6 to 1,024 bytes is held with 1 to 120 seconds left, or none with 0.
@@ -116,97 +110,68 @@ fn wait_ok(w: Wait) -> bool
     ensures { result ≡ (is_idle w || is_holding w) }
 {
     let size = w.size as usize;
-    let sized = wire::both(Pending::LEAST <= size, size <= Pending::ROOM);
-    let timed = wire::both(1 <= w.left, wire::both(w.left <= Wait::MOST_LEFT, sized));
-    wire::either(wire::both(w.left == 0, w.size == 0), timed)
+    (w.left == 0 && w.size == 0)
+        || (1 <= w.left
+            && w.left <= Wait::MOST_LEFT
+            && Pending::LEAST <= size
+            && size <= Pending::ROOM)
 }
 
-// 0 to 60 wrong codes; unused room is zero. A room that is all unused has a call of its own: of that one the compiler knows where it
-// begins and ends, and takes it without a loop.
+// 0 to 60 wrong codes; unused room is zero.
+#[tactic(auto, unfolding(card::specs::Image::decode, card::specs::Valid::ok_pending))]
 fn pending_ok(img: &[u8]) -> bool
     ensures { result ≡ ok_pending (dec_pending img.now) }
 {
     let w = crate::wait(img);
     let request = wire::part(img, layout::PENDING_AT + 4, Pending::ROOM);
-    let clear = if w.size == 0 {
-        wire::zero_from(request, 0)
-    } else {
-        wire::zero_from(request, w.size as usize)
-    };
-    wire::both(w.wrong <= Wait::MOST_WRONG, wire::both(wait_ok(w), clear))
+    w.wrong <= Wait::MOST_WRONG && wait_ok(w) && clear_after(request, w.size as usize)
 }
 
-// 0 to 10 last signatures; unused room is zero, and is looked at as that of a request is.
+// 0 to 10 last signatures; unused room is zero.
+#[tactic(auto, unfolding(card::specs::Image::decode, card::specs::Valid::ok_last))]
 fn last_ok(img: &[u8]) -> bool
     ensures { result ≡ ok_last (dec_last img.now) }
 {
-    let count = wire::get8(img, layout::LAST_AT as u32) as usize;
+    let count = crate::last_count(img) as usize;
     let signatures = wire::part(img, layout::LAST_AT + 1, Last::ROOM);
-    let used = count * Last::SIGNATURE_SIZE;
-    let clear = if used == 0 {
-        wire::zero_from(signatures, 0)
-    } else {
-        wire::zero_from(signatures, used)
-    };
-    wire::both(count <= Last::MOST_HASHES, clear)
+    count <= Last::MOST_HASHES && clear_after(signatures, count * Last::SIGNATURE_SIZE)
 }
 
 // Signatures only with a wallet.
+#[tactic(auto, unfolding(card::specs::Image::decode))]
 fn last_owned(img: &[u8]) -> bool
     ensures { result ≡ last_owned (dec_wallet img.now) (dec_last img.now) }
 {
-    if wire::get8(img, layout::WALLET_AT as u32) == Wallet::LOADED {
-        return true;
-    }
-    let count = wire::get8(img, layout::LAST_AT as u32);
-    count == 0
+    wire::get8(img, layout::WALLET_AT as u32) == Wallet::LOADED || crate::last_count(img) == 0
 }
 
+#[tactic(auto, unfolding(card::specs::Image::decode, card::specs::Valid::ok_front))]
 fn front_ok(img: &[u8]) -> bool
     ensures { result ≡ ok_front (dec_front img.now) }
 {
     let flags = crate::flags(img);
     let wallet = crate::wallet(img);
     let curve = crate::curve(img);
-    let pause = crate::pause(img) <= Fixed::MOST_PAUSE;
-    let key = wire::both(key_ok(curve, wallet.status, img), pause);
-    let state = wire::both(state_ok(flags, wallet), key);
-    let ranges = ranges_ok(curve, crate::max(img), wallet);
-    wire::both(flags_ok(flags), wire::both(ranges, state))
+    flags_ok(flags)
+        && ranges_ok(curve, crate::max(img), wallet)
+        && state_ok(flags, wallet)
+        && key_ok(curve, wallet.status, img)
+        && crate::pause(img) <= Fixed::MOST_PAUSE
 }
 
-// User_Data and User_ProtectedData, each a block. Where neither is held, both rooms are tested without a loop, as that of a request.
-fn data_ok(img: &[u8]) -> bool
-    ensures { result ≡ (ok_block (dec_block user_at img.now) && ok_block (dec_block protected_at img.now)) }
-{
-    let user = layout::USER_AT as u16;
-    let protected = layout::PROTECTED_AT as u16;
-    if wire::get16(img, user) == 0 {
-        if wire::get16(img, protected) == 0 {
-            let first = wire::part(img, layout::USER_AT + 2, Block::ROOM);
-            let second = wire::part(img, layout::PROTECTED_AT + 2, Block::ROOM);
-            return wire::both(wire::zero_from(first, 0), wire::zero_from(second, 0));
-        }
-    }
-    wire::both(block_ok(img, user), block_ok(img, protected))
-}
-
+#[tactic(auto, unfolding(card::specs::Valid::ok_held))]
 fn held_ok(img: &[u8]) -> bool
     ensures { result ≡ ok_held (dec_held img.now) }
 {
-    wire::both(data_ok(img), issuer_ok(img))
+    block_ok(img, layout::USER_AT as u16)
+        && block_ok(img, layout::PROTECTED_AT as u16)
+        && issuer_ok(img)
 }
 
 // Group by group, each behind the one before: of a group that is fine nothing is kept until the last has been looked at.
+#[tactic(auto, unfolding(card::specs::Image::decode, card::specs::Valid::ok_face))]
 pub fn face_ok(img: &[u8]) -> bool
     ensures { result ≡ ok_face (decode img.now).face }
 {
-    if front_ok(img) {
-        if held_ok(img) {
-            if pending_ok(img) {
-                return wire::both(last_ok(img), last_owned(img));
-            }
-        }
-    }
-    false
+    front_ok(img) && held_ok(img) && pending_ok(img) && last_ok(img) && last_owned(img)
 }

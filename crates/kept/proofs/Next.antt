@@ -1,4 +1,5 @@
 -- THE NEXT CARD: a face with a group anew passes the tests. Those that the change touches are shown, the others are kept. Assumes nothing.
+use Rattle.std.proofs.Common.{rules}
 use mathlib.Core.Path.{◌≡◌, ap, ◌∙◌}
 use mathlib.Core.Bool.{true, ◌||◌}
 use lib.Dec.{eqb}
@@ -23,20 +24,7 @@ module _ (f : Face) (ok : ok_face f ≡ true) where
       → ok_face (with_last l (with_key k (with_wallet w f))) ≡ true
   ok_own w k l ranges state key last owned =
       let v = valid f ok in
-      is_valid (with_last l (with_key k (with_wallet w f)))
-      (record {
-        flags = v.flags;
-        ranges = ranges;
-        state = state;
-        key = key;
-        pause = v.pause;
-        user = v.user;
-        protected = v.protected;
-        issuer = v.issuer;
-        pending = v.pending;
-        last = last;
-        owned = owned;
-      })
+      is_valid (with_last l (with_key k (with_wallet w f))) (search rules)
 
   -- FB: Status stays, and so do the key and whose the signatures are
   pub ok_wallet :
@@ -55,20 +43,7 @@ module _ (f : Face) (ok : ok_face f ≡ true) where
   pub ok_flags_lem : (g : Flags) → ok_flags g ≡ true → ok_state g f.front.wallet ≡ true → ok_face (with_flags g f) ≡ true
   ok_flags_lem g flags state =
       let v = valid f ok in
-      is_valid (with_flags g f)
-      (record {
-        flags = flags;
-        ranges = v.ranges;
-        state = state;
-        key = v.key;
-        pause = v.pause;
-        user = v.user;
-        protected = v.protected;
-        issuer = v.issuer;
-        pending = v.pending;
-        last = v.last;
-        owned = v.owned;
-      })
+      is_valid (with_flags g f) (search rules)
 
   pub ok_counters : (x : Counters) → ok_face (with_counters x f) ≡ true
   unfolding ok_face ok_front
@@ -78,20 +53,7 @@ module _ (f : Face) (ok : ok_face f ≡ true) where
   ok_held_lem : (x : Held) → ok_block x.user ≡ true → ok_block x.protected ≡ true → ok_issuer x.issuer ≡ true → ok_face (holding x f) ≡ true
   ok_held_lem x user protected issuer =
       let v = valid f ok in
-      is_valid (holding x f)
-      (record {
-        flags = v.flags;
-        ranges = v.ranges;
-        state = v.state;
-        key = v.key;
-        pause = v.pause;
-        user = user;
-        protected = protected;
-        issuer = issuer;
-        pending = v.pending;
-        last = v.last;
-        owned = v.owned;
-      })
+      is_valid (holding x f) (search rules)
 
   pub ok_user : (x : Block) → ok_block x ≡ true → ok_face (with_user x f) ≡ true
   ok_user x e = let v = valid f ok in ok_held_lem (with_user x f).held e v.protected v.issuer

@@ -1,4 +1,5 @@
 -- The tests of a card, by name, and back. Assumes nothing.
+use Rattle.std.proofs.Common.{rules}
 use mathlib.Core.Path.{◌≡◌, refl}
 use mathlib.Core.Bool.{Bool, true, false, cond, ◌&&◌, ◌||◌}
 use mathlib.Core.List.{List, [], ◌∷◌}
@@ -52,9 +53,7 @@ pub record Flagged (g : Flags) : Type 0 where
 pub flagged : (g : Flags) → ok_flags g ≡ true → Flagged g
 unfolding ok_flags
 flagged g e =
-    let s = split (flag_tests g) e in
-    let t = s.1.1.1 in
-    record { reusable = s.0; usecvc = s.1.0; setpin1 = s.1.1.0; setpin2 = t.0; nopurge = t.1.0; replay = t.1.1.0; active = t.1.1.1 }
+    let s = split (flag_tests g) e in search rules
 
 -- THE RANGES
 pub record Ranged (x : Fixed) (w : Wallet) : Type 0 where
@@ -67,12 +66,11 @@ pub record Ranged (x : Fixed) (w : Wallet) : Type 0 where
 pub ranged : (x : Fixed) (w : Wallet) → ok_ranges x w ≡ true → Ranged x w
 unfolding ok_ranges
 ranged x w e =
-    let s = split (range_tests x w) e in
-    record { curve = s.0; max = s.1.0; status = s.1.1.0; remaining = s.1.1.1.0; idle = s.1.1.1.1 }
+    let s = split (range_tests x w) e in search rules
 
 pub is_ranged : (x : Fixed) (w : Wallet) → Ranged x w → ok_ranges x w ≡ true
 unfolding ok_ranges
-is_ranged x w v = join (range_tests x w) (v.curve, (v.max, (v.status, (v.remaining, v.idle))))
+is_ranged x w v = join (range_tests x w) (search rules)
 
 -- THE STATE
 pub record Stated (g : Flags) (w : Wallet) : Type 0 where
@@ -84,12 +82,11 @@ pub record Stated (g : Flags) (w : Wallet) : Type 0 where
 pub stated : (g : Flags) (w : Wallet) → ok_state g w ≡ true → Stated g w
 unfolding ok_state
 stated g w e =
-    let s = split (state_tests g w) e in
-    record { begun = s.0; once = s.1.0; purges = s.1.1.0; asleep = s.1.1.1 }
+    let s = split (state_tests g w) e in search rules
 
 pub is_stated : (g : Flags) (w : Wallet) → Stated g w → ok_state g w ≡ true
 unfolding ok_state
-is_stated g w v = join (state_tests g w) (v.begun, (v.once, (v.purges, v.asleep)))
+is_stated g w v = join (state_tests g w) (search rules)
 
 -- THE WAIT
 pub record Waited (p : Pending) : Type 0 where
@@ -100,12 +97,11 @@ pub record Waited (p : Pending) : Type 0 where
 pub waited : (p : Pending) → ok_pending p ≡ true → Waited p
 unfolding ok_pending
 waited p e =
-    let s = split (pending_tests p) e in
-    record { wrong = s.0; held = s.1.0; room = s.1.1 }
+    let s = split (pending_tests p) e in search rules
 
 pub is_waited : (p : Pending) → Waited p → ok_pending p ≡ true
 unfolding ok_pending
-is_waited p v = join (pending_tests p) (v.wrong, (v.held, v.room))
+is_waited p v = join (pending_tests p) (search rules)
 
 -- THE FACE
 pub record Valid (f : Face) : Type 0 where
@@ -127,23 +123,11 @@ valid f e =
     let s = split (face_tests f) e in
     let x = split (front_tests f.front) s.0 in
     let y = split (held_tests f.held) s.1.0 in
-    record {
-      flags = x.0;
-      ranges = x.1.0;
-      state = x.1.1.0;
-      key = x.1.1.1.0;
-      pause = x.1.1.1.1;
-      user = y.0;
-      protected = y.1.0;
-      issuer = y.1.1;
-      pending = s.1.1.0;
-      last = s.1.1.1.0;
-      owned = s.1.1.1.1;
-    }
+    search rules
 
 pub is_valid : (f : Face) → Valid f → ok_face f ≡ true
 unfolding ok_face ok_front ok_held
 is_valid f v =
-    let x = join (front_tests f.front) (v.flags, (v.ranges, (v.state, (v.key, v.pause)))) in
-    let y = join (held_tests f.held) (v.user, (v.protected, v.issuer)) in
-    join (face_tests f) (x, (y, (v.pending, (v.last, v.owned))))
+    let x = join (front_tests f.front) (search rules) in
+    let y = join (held_tests f.held) (search rules) in
+    join (face_tests f) (search rules)

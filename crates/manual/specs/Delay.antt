@@ -1,22 +1,20 @@
 -- THE SECURITY DELAY, 02 Ask 7 and the manual's 3.6 and 4.7: whether a request has to wait, for how long, and what becomes of the wait. Below, r is the row
 -- of the request q, m how its codes compare, f the card's face, v the view of the payload and g the verdict of checks 1 to 12. Assumes nothing.
-use Rattle.std.specs.Prelude.{ℕ, ◌+◌, ◌-◌, ◌*◌, List, [], ◌∷◌, Bool, true, false, cond, not, ◌&&◌, length, leb, eqb}
+use Rattle.std.specs.Prelude.{ℕ, ◌+◌, ◌-◌, ◌*◌, List, [], ◌∷◌, Bool, true, false, cond, not, ◌&&◌, length, leb, eqb, Ok, Err}
 use Rattle.wire.specs.Wire.{be2, alike}
 use Rattle.fields.specs.Fields.{View, has, holds, Tagged, fld}
 use Rattle.card.specs.declared.Pending.{Pending}
 use Rattle.card.specs.declared.Face.{Face}
 use Rattle.card.specs.Values.{default_pin1, default_pin2, u8, u16, dropped, counted, held_for, held_request, request_of, idle, no_pending}
 use Rattle.manual.specs.Tags.{PIN1, PIN2, CVC, Pause}
-use Rattle.manual.specs.declared.Verdict.{Verdict}
-use Rattle.manual.specs.declared.Verdict.TheVariants.{Pass, Stop}
 use Rattle.manual.specs.declared.Pace.{Pace}
 use Rattle.manual.specs.declared.Pace.TheVariants.{Refused, Waits, Goes}
-use Rattle.manual.specs.Row.{Matched, Row}
+use Rattle.manual.specs.Row.{Matched, Row, Verdict}
 
 -- "After check 10": all hold, or a later one fails
 abbrev pub entered : Verdict → Bool
-entered (Pass k) = true
-entered (Stop n w) = leb 11 n
+entered (Ok k) = true
+entered (Err e) = leb 11 e.check
 
 -- a wrong code that counts: it is there, and it is not the default, which is free
 abbrev pub counts : ℕ → List ℕ → View → Bool
@@ -31,8 +29,8 @@ abbrev pub over_code : Row → Matched → View → ℕ → Bool
 over_code r m v n = cond (eqb n 6) (counts PIN1 default_pin1 v) (eqb n 10 && over_own r m v)
 
 abbrev pub wrong_code : Row → Matched → View → Verdict → Bool
-wrong_code r m v (Pass k) = false
-wrong_code r m v (Stop n w) = over_code r m v n
+wrong_code r m v (Ok k) = false
+wrong_code r m v (Err e) = over_code r m v e.check
 
 -- "the identical bytes": q is the request that is held
 unfoldable pub is_held : Face → List ℕ → Bool

@@ -15,8 +15,7 @@ use Rattle.card.specs.Image.{enc_wallet, enc_key, enc_counters, enc_block, enc_i
 use Rattle.card.specs.Valid.{is_card, ok_face, ok_front, ok_held, ok_flags, ok_ranges, ok_state, ok_key, key_size, ok_block, ok_issuer, ok_pending, ok_last}
 use Rattle.manual.specs.Words.{response_room}
 use Rattle.manual.specs.Tags.{CID, PIN1, PIN2, IssuerData, IssuerDataSignature, IssuerDataCounter, TransactionHash, TransactionHashSize}
-use Rattle.manual.specs.Row.{Matched}
-use Rattle.manual.specs.declared.Verdict.TheVariants.{Stop}
+use Rattle.manual.specs.Row.{Matched, stop}
 use Rattle.manual.specs.Request.{lc_of, ins_of}
 use Rattle.manual.specs.Row.{plain, allowed, shaped}
 use Rattle.manual.specs.Wallet.{hash_questions}
@@ -96,11 +95,11 @@ pub drill :
     -- (4) the empty payload has no field
     × (rest_from [] 0 ≡ ended)
     -- (5) a request of 5 bytes ending in Lc 00: 6700
-    × ((m : Matched) (f : Face) → judged m f (0x00 ∷ 0xF2 ∷ 0x00 ∷ 0x00 ∷ 0x00 ∷ []) ≡ Stop 1 0x6700)
+    × ((m : Matched) (f : Face) → judged m f (0x00 ∷ 0xF2 ∷ 0x00 ∷ 0x00 ∷ 0x00 ∷ []) ≡ stop 1 0x6700)
     -- (6) the lowest wrong of CLA 80 and INS 00: 6E00
-    × ((m : Matched) (f : Face) → judged m f (0x80 ∷ 0x00 ∷ 0x00 ∷ 0x00 ∷ 0x02 ∷ 0x10 ∷ 0x00 ∷ []) ≡ Stop 2 0x6E00)
+    × ((m : Matched) (f : Face) → judged m f (0x80 ∷ 0x00 ∷ 0x00 ∷ 0x00 ∷ 0x02 ∷ 0x10 ∷ 0x00 ∷ []) ≡ stop 2 0x6E00)
     -- (7) P1 01 with P2 02: 6982
-    × ((m : Matched) (f : Face) → judged m f (0x00 ∷ 0xF2 ∷ 0x01 ∷ 0x02 ∷ 0x02 ∷ 0x10 ∷ 0x00 ∷ []) ≡ Stop 4 0x6982)
+    × ((m : Matched) (f : Face) → judged m f (0x00 ∷ 0xF2 ∷ 0x01 ∷ 0x02 ∷ 0x02 ∷ 0x10 ∷ 0x00 ∷ []) ≡ stop 4 0x6982)
     -- the rest on a card, by its image
     × (is_card (encode (card0 5 0 0 9)) ≡ true)
     -- (8) protected, stored counter 9, sent 9: 6985

@@ -1,31 +1,28 @@
 -- Requests, 01 "Requests and fields": CLA, INS, P1, P2, Lc, payload. Assumes nothing.
-use Rattle.std.specs.Prelude.{ℕ, ◌+◌, ◌*◌, List, [], ◌∷◌, Bool, true, false, cond, length, get_or, drop, ltb, eqb}
+use Rattle.std.specs.Prelude.{ℕ, ◌+◌, ◌*◌, List, [], ◌∷◌, Bool, true, false, cond, length, get_or, drop, ltb, eqb, Option, Some, None, Result, Ok, Err}
 use Rattle.manual.specs.Words.{least_request, most_request}
 use Rattle.manual.specs.declared.Command.{Command}
+use Rattle.manual.specs.declared.Unlisted.{Unlisted}
 use Rattle.manual.specs.declared.Command.TheVariants.{ReadCard, CreateWallet, CheckWallet, SetPin, Sign, VerifyCard, ValidateCard, PurgeWallet}
 use Rattle.manual.specs.declared.Command.TheVariants.{ReadUserData, WriteUserData, WriteIssuerData, ReadIssuerData, ActivateCard}
-use Rattle.manual.specs.declared.Ins.{Ins}
-use Rattle.manual.specs.declared.Ins.TheVariants.{Listed, Unlisted}
-use Rattle.manual.specs.declared.Lc.{Lc}
-use Rattle.manual.specs.declared.Lc.TheVariants.{Body, Wrong}
 
--- 6 to 1,024 bytes; Lc is one byte 1 to 255, or 00 and two bytes with a value of at least 1; the whole ends exactly at the payload's end
-unfoldable pub lc_of : List ℕ → Lc
+-- where the payload begins. 6 to 1,024 bytes; Lc is one byte 1 to 255, or 00 and two bytes with a value of at least 1; the whole ends exactly at the payload's end
+unfoldable pub lc_of : List ℕ → Option ℕ
 lc_of q =
-    cond (ltb (length q) least_request) Wrong
-    (cond (ltb most_request (length q)) Wrong
+    cond (ltb (length q) least_request) None
+    (cond (ltb most_request (length q)) None
     (cond (eqb (get_or q 4 0) 0)
-    (cond (ltb (length q) 8) Wrong (cond (eqb (length q) (7 + (get_or q 5 0 * 256 + get_or q 6 0))) (Body 7) Wrong))
-    (cond (eqb (length q) (5 + get_or q 4 0)) (Body 5) Wrong)))
+    (cond (ltb (length q) 8) None (cond (eqb (length q) (7 + (get_or q 5 0 * 256 + get_or q 6 0))) (Some 7) None))
+    (cond (eqb (length q) (5 + get_or q 4 0)) (Some 5) None)))
 
-abbrev pub fits : Lc → Bool
-fits (Body b) = true
-fits Wrong = false
+abbrev pub fits : Option ℕ → Bool
+fits (Some b) = true
+fits None = false
 
 -- nothing where check 1 refuses
-abbrev pub payload_by : Lc → List ℕ → List ℕ
-payload_by (Body b) q = drop b q
-payload_by Wrong q = []
+abbrev pub payload_by : Option ℕ → List ℕ → List ℕ
+payload_by (Some b) q = drop b q
+payload_by None q = []
 
 abbrev pub payload : List ℕ → List ℕ
 payload q = payload_by (lc_of q) q
@@ -56,21 +53,21 @@ commands =
     ∷ ReadUserData ∷ WriteUserData ∷ WriteIssuerData ∷ ReadIssuerData ∷ ActivateCard ∷ []
 
 -- the command with this INS, among some
-abbrev pub listed_in : List Command → ℕ → Ins
-listed_in [] i = Unlisted
-listed_in (k ∷ ks) i = cond (eqb i (code k)) (Listed k) (listed_in ks i)
+abbrev pub listed_in : List Command → ℕ → Result Command Unlisted
+listed_in [] i = Err (record { 0 = i })
+listed_in (k ∷ ks) i = cond (eqb i (code k)) (Ok k) (listed_in ks i)
 
-unfoldable pub ins_of : ℕ → Ins
+unfoldable pub ins_of : ℕ → Result Command Unlisted
 ins_of i = listed_in commands i
 
-abbrev pub listed : Ins → Bool
-listed (Listed k) = true
-listed Unlisted = false
+abbrev pub listed : Result Command Unlisted → Bool
+listed (Ok k) = true
+listed (Err e) = false
 
 -- the command of a request that is refused by check 3 does not matter
-abbrev pub command_of : Ins → Command
-command_of (Listed k) = k
-command_of Unlisted = ReadCard
+abbrev pub command_of : Result Command Unlisted → Command
+command_of (Ok k) = k
+command_of (Err e) = ReadCard
 
 abbrev pub command : List ℕ → Command
 command q = command_of (ins_of (get_or q 1 0))

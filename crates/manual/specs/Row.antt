@@ -1,5 +1,5 @@
 -- A command as a row; its questions and the shape of their answers; the checks 1 to 12 as one list of rules over a row. Assumes nothing.
-use Rattle.std.specs.Prelude.{ℕ, List, [], ◌∷◌, ◌++◌, Bool, true, cond, not, ◌&&◌, ◌||◌, length, get_or, take, drop, leb, eqb}
+use Rattle.std.specs.Prelude.{ℕ, List, [], ◌∷◌, ◌++◌, Bool, true, cond, not, ◌&&◌, ◌||◌, length, get_or, take, drop, leb, eqb, Result, Ok, Err}
 use Rattle.wire.specs.Wire.{be1, be2, joined}
 use Rattle.fields.specs.Fields.{View, holds, twice, Tagged}
 use Rattle.card.specs.declared.Face.{Face}
@@ -9,8 +9,8 @@ use Rattle.card.specs.Values.{u16}
 use Rattle.manual.specs.Words.{sw_wrong_length, sw_cla_not_supported, sw_ins_not_supported, sw_need_encryption, sw_invalid_params, sw_invalid_status}
 use Rattle.manual.specs.Tags.{CID, CVC}
 use Rattle.manual.specs.declared.Needs.{Needs}
-use Rattle.manual.specs.declared.Verdict.{Verdict}
-use Rattle.manual.specs.declared.Verdict.TheVariants.{Pass, Stop}
+use Rattle.manual.specs.declared.Command.{Command}
+use Rattle.manual.specs.declared.Refusal.{Refusal}
 use Rattle.manual.specs.Request.{lc_of, fits, ins_of, listed, command}
 
 -- QUESTIONS: kind (1), wallet number (2), curve (1), message length (2), message, whose parts follow one another
@@ -108,9 +108,16 @@ pub record Rule : Type 0 where
 abbrev pub rule : ℕ → Bool → ℕ → Rule
 rule n b w = record { check = n; ok = b; word = w }
 
-abbrev pub gate_of : List Rule → Verdict → Verdict
+-- the command, or which check is the first that fails, and its status word
+abbrev pub Verdict : Type 0
+Verdict = Result Command Refusal
+
+abbrev pub stop : {A : Type 0} → ℕ → ℕ → Result A Refusal
+stop n w = Err (record { check = n; word = w })
+
+abbrev pub gate_of : {A : Type 0} → List Rule → Result A Refusal → Result A Refusal
 gate_of [] g = g
-gate_of (r ∷ rs) g = cond r.ok (gate_of rs g) (Stop r.check r.word)
+gate_of (r ∷ rs) g = cond r.ok (gate_of rs g) (stop r.check r.word)
 
 unfoldable pub plain : ℕ → Bool
 plain p2 = not (eqb p2 1 || eqb p2 2)
@@ -167,4 +174,4 @@ abbrev pub rules : Row → Matched → Face → Bool → View → List ℕ → L
 rules r m f formed v q = head_rules q ++ (form_rules r f formed v q ++ (entry_rules r m f v ++ own_rules r m f v))
 
 abbrev pub passed : List ℕ → Verdict
-passed q = Pass (command q)
+passed q = Ok (command q)

@@ -1,5 +1,5 @@
 -- Ask and settle, 01 "Two calls": first what is said and which card is left, then what that leaves in the lent buffers. Assumes nothing.
-use Rattle.std.specs.Prelude.{ℕ, ◌+◌, List, [], ◌∷◌, ◌++◌, Bool, true, false, cond, ◌&&◌, length, drop, leb, eqb}
+use Rattle.std.specs.Prelude.{ℕ, ◌+◌, List, [], ◌∷◌, ◌++◌, Bool, true, false, cond, ◌&&◌, length, drop, leb, eqb, Ok, Err}
 use Rattle.wire.specs.Wire.{be2}
 use Rattle.fields.specs.Fields.{View, view_of, well_formed, holds, written, Tagged, fld}
 use Rattle.card.specs.declared.Codes.{Codes}
@@ -13,9 +13,7 @@ use Rattle.card.specs.Valid.{is_card}
 use Rattle.manual.specs.Words.{sw_process_completed, sw_error_processing_command, sw_need_pause, questions_room, response_room, draw_size}
 use Rattle.manual.specs.Tags.{CID, PIN1, PIN2, NewPIN1, NewPIN2}
 use Rattle.manual.specs.declared.Command.{Command}
-use Rattle.manual.specs.Row.{Matched}
-use Rattle.manual.specs.declared.Verdict.{Verdict}
-use Rattle.manual.specs.declared.Verdict.TheVariants.{Pass, Stop}
+use Rattle.manual.specs.Row.{Matched, Verdict}
 use Rattle.manual.specs.declared.Pace.{Pace}
 use Rattle.manual.specs.declared.Pace.TheVariants.{Refused, Waits, Goes}
 use Rattle.manual.specs.declared.Outcome.{Outcome}
@@ -74,12 +72,12 @@ judged m f q = judged_by (well_formed (payload q)) (sent_in q) m f q
 
 -- the status word of a verdict, and its reason: the number of the check that refuses, or 0
 abbrev pub word_of : Verdict → ℕ
-word_of (Pass k) = sw_process_completed
-word_of (Stop n w) = w
+word_of (Ok k) = sw_process_completed
+word_of (Err e) = e.word
 
 abbrev pub reason_of : Verdict → ℕ
-reason_of (Pass k) = 0
-reason_of (Stop n w) = n
+reason_of (Ok k) = 0
+reason_of (Err e) = e.check
 
 -- SETTLE: what is said, the face after, and whether the command was carried out; the codes are not in it
 pub record Said : Type 0 where
@@ -122,8 +120,8 @@ answered r m f v d a =
     cond (shaped (r.questions f v d) a) (cond (r.confirmed a) (done r m f v d a) (refused 13 sw_error_processing_command f)) (silent 4 f)
 
 abbrev pub said_by : Verdict → Matched → Face → List ℕ → List ℕ → List ℕ → Said
-said_by (Stop n w) m f q d a = refused n w f
-said_by (Pass k) m f q d a = answered (row k) m f (sent_in q) d a
+said_by (Err e) m f q d a = refused e.check e.word f
+said_by (Ok k) m f q d a = answered (row k) m f (sent_in q) d a
 
 -- where nobody has to wait
 unfoldable pub said : Matched → Face → List ℕ → List ℕ → List ℕ → Said
@@ -241,8 +239,8 @@ posed n w v out = posed_by (outcome 0 n w (length v)) (over v out)
 
 -- zero questions where checks 1 to 12 refuse, with the check's number and word; otherwise 0 and 9000, with the command's questions or none
 abbrev pub questions_of : Verdict → Face → List ℕ → List ℕ → List Question
-questions_of (Stop n w) f q d = []
-questions_of (Pass k) f q d = (row k).questions f (sent_in q) d
+questions_of (Err e) f q d = []
+questions_of (Ok k) f q d = (row k).questions f (sent_in q) d
 
 -- of a request that waits: 0, 9789 and none
 abbrev pub paced_reason : Pace → Verdict → ℕ

@@ -1,4 +1,4 @@
-// The manual's words as types: the commands, what each needs, the verdict of the checks, the result of a call. The meaning is in specs/.
+// The manual's words as types: the commands, what each needs, the refusal of a check, the result of a call. The meaning is in specs/.
 #![tactic(auto)]
 
 pub mod tag;
@@ -20,18 +20,37 @@ pub enum Command {
     ActivateCard,
 }
 
-// Check 3.
-#[derive(Drop)]
-pub enum Ins {
-    Listed(Command),
-    Unlisted,
-}
+// An INS that no command has: check 3.
+#[derive(Clone, Copy)]
+pub struct Unlisted(pub u8);
 
-// Check 1: where the payload begins.
-#[derive(Drop)]
-pub enum Lc {
-    Body(usize),
-    Wrong,
+impl TryFrom<u8> for Command {
+    type Error = Unlisted;
+
+    ghost use Rattle.std.specs.Prelude.{◌≡◌};
+    ghost use Rattle.manual.specs.Request.{ins_of};
+
+    ghost try_from_gives = { λ ins r. r ≡ ins_of ins };
+
+    #[tactic(auto, unfolding(crate::specs::Request::ins_of))]
+    fn try_from(ins: u8) -> Result<Command, Unlisted> {
+        match ins {
+            0xF2 => Ok(Command::ReadCard),
+            0xF8 => Ok(Command::CreateWallet),
+            0xF9 => Ok(Command::CheckWallet),
+            0xFA => Ok(Command::SetPin),
+            0xFB => Ok(Command::Sign),
+            0xF3 => Ok(Command::VerifyCard),
+            0xF4 => Ok(Command::ValidateCard),
+            0xFC => Ok(Command::PurgeWallet),
+            0xE1 => Ok(Command::ReadUserData),
+            0xE0 => Ok(Command::WriteUserData),
+            0xF6 => Ok(Command::WriteIssuerData),
+            0xF7 => Ok(Command::ReadIssuerData),
+            0xFE => Ok(Command::ActivateCard),
+            _ => Err(Unlisted(ins)),
+        }
+    }
 }
 
 // What SIGN asks for: new signatures, of a hash array of so many bytes, or the last ones again.
@@ -41,11 +60,11 @@ pub enum Signing {
     Again,
 }
 
-// What the checks say: the command, or the number of the first that fails and its status word.
+// The first check that fails, by its number in 01, and its status word.
 #[derive(Clone, Copy)]
-pub enum Verdict {
-    Pass(Command),
-    Stop(u8, u16),
+pub struct Refusal {
+    pub check: u8,
+    pub word: u16,
 }
 
 // What the delay makes of a request (02 Ask 7): refused by checks 1 to 10, over a code that counts as wrong or not; it waits, so many

@@ -1,63 +1,20 @@
--- What the callers of `noteline` cite, and its own proofs: a note from the values of a line, and how long a line can be. Assumes nothing.
+-- What the callers of `noteline` cite, and its own proofs: how long a line can be. Assumes nothing.
 use Prim.Native.Nat.{ℕ, ◌+◌, ◌*◌, ◌/◌, ◌%◌, ◌≤◌, ◌<◌}
 use native.Mathlib.Omega.{arith}
 use native.Mathlib.Decide.{dec_lt}
-use mathlib.Core.Path.{◌≡◌, ap, subst}
-use mathlib.Core.List.{List, [], ◌∷◌}
-use mathlib.Core.Bool.{Bool, true, false, ◌&&◌}
+use mathlib.Core.Path.{◌≡◌}
+use mathlib.Core.List.{[], ◌∷◌}
+use mathlib.Core.Bool.{true, ◌&&◌}
 use lib.ListN.{length, length-append}
 use lib.Dec.{ltb}
 use borrow.Author.Tests.{ltb-true}
-use Rattle.wire.specs.Wire.{pad, joined, Wrote}
+use Rattle.wire.specs.Wire.{joined}
 use Rattle.wire.proofs.Laws.{both_true, part_most}
-use Rattle.text.specs.declared.Number.{Number}
-use Rattle.text.specs.declared.Number.TheVariants.{Is, None}
 use Rattle.text.specs.Text.{decimal_of}
 use Rattle.text.proofs.Laws.{decimal_small, decimal_more}
 use Rattle.notes.specs.declared.Note.{Note}
-use Rattle.notes.specs.Notes.{blank, good_of, text_good}
-use Rattle.noteline.specs.NoteLine.{line_of, held, valued}
-
--- THE NOTE of these values, where they fit their places
-abbrev pub fitting : ℕ → ℕ → List ℕ → Bool
-fitting t n w = ltb t 256 && (ltb n 65536 && ltb (length w) 61)
-
-module _ (t n h : ℕ) (w : List ℕ) where
-  pub fits : fitting t n w ≡ true → (t < 256) × (n < 65536) × (length w < 61)
-  fits e =
-      let p = both_true (ltb t 256) (ltb n 65536 && ltb (length w) 61) e in
-      let q = both_true (ltb n 65536) (ltb (length w) 61) p.1 in
-      (ltb-true t 256 p.0, ltb-true n 65536 q.0, ltb-true (length w) 61 q.1)
-
-  pub held_fit : fitting t n w ≡ true → (l : List ℕ) → l ≡ pad 60 w → record { tablet = t; number = n; hours = h; len = length w; text = l } ≡ held t n h w
-  unfolding held
-  held_fit e l p = rw e (ap (λ (v : List ℕ). record { tablet = t; number = n; hours = h; len = length w; text = v }) p)
-
-  pub held_not : fitting t n w ≡ false → blank ≡ held t n h w
-  unfolding held
-  held_not e = rw e
-
--- where a number is not there
-module _ (a b c : Number) (w : List ℕ) where
-  pub valued_first : a ≡ None → blank ≡ valued a b c w
-  unfolding valued
-  valued_first e = rw e
-
-  pub valued_second : (t : ℕ) → a ≡ Is t → b ≡ None → blank ≡ valued a b c w
-  unfolding valued
-  valued_second t e f = rw (e, f)
-
-  pub valued_third : (t n : ℕ) → a ≡ Is t → b ≡ Is n → c ≡ None → blank ≡ valued a b c w
-  unfolding valued
-  valued_third t n e f g = rw (e, f, g)
-
-  pub valued_all : (t n h : ℕ) → a ≡ Is t → b ≡ Is n → c ≡ Is h → held t n h w ≡ valued a b c w
-  unfolding valued
-  valued_all t n h e f g = rw (e, f, g)
-
--- a write that is said in other words
-pub wrote_as : {d : List ℕ} {at : ℕ} {v w d' : List ℕ} {r : ℕ} → v ≡ w → Wrote d at v d' r → Wrote d at w d' r
-wrote_as {d} {at} {d' = d'} {r} e x = subst (λ (u : List ℕ). Wrote d at u d' r) e x
+use Rattle.notes.specs.Notes.{good_of, text_good}
+use Rattle.noteline.specs.NoteLine.{line_of}
 
 -- HOW MANY DIGITS a number has
 more_digits : (k m : ℕ) → ((n : ℕ) → n < m → length (decimal_of n) ≤ k) → (n : ℕ) → n < 10 * m → length (decimal_of n) ≤ k + 1

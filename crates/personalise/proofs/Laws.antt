@@ -1,5 +1,5 @@
 -- The outcome of a sheet's reader, and the card of a sheet. Assumes nothing.
-use Prim.Native.Nat.{ℕ, ◌≤◌, ◌<◌}
+use Prim.Native.Nat.{ℕ, ◌≤◌}
 use native.Mathlib.Omega.{arith}
 use mathlib.Core.Path.{◌≡◌, refl, sym, ap, ◌∙◌}
 use mathlib.Core.Bool.{Bool, true, false, cond}
@@ -7,7 +7,7 @@ use mathlib.Core.List.{List, ◌++◌}
 use lib.ListN.{length, take, drop}
 use lib.Seq.{take_at}
 use lib.Dec.{eqb}
-use borrow.Author.Tests.{lt-ltb, le-ltb, eq-eqb, ne_eqb, eqb-true}
+use borrow.Author.Tests.{le-ltb, eq-eqb, eqb-true}
 use Rattle.wire.specs.Wire.{Wrote}
 use Rattle.wire.proofs.Laws.{runs, front}
 use Rattle.wire.proofs.Parts.{length_pad}
@@ -19,20 +19,11 @@ use Rattle.cards.proofs.Shape.{length_encode, shape_fresh}
 use Rattle.sheet.specs.Sheet.{first_bad}
 use Rattle.personalise.specs.Personalise.{value_of, sheet_codes, sheet_fixed, sheet_flags, sheet_card, Outcome, personalised}
 
--- THE OUTCOME, case by case
-module _ (s out : List ℕ) where
-  pub outcome_short : length out < image_room → personalised s out ≡ record { answer = 99; image = out }
-  unfolding personalised
-  outcome_short h = rw (lt-ltb _ _ h)
-
-  module _ (h : image_room ≤ length out) where
-    pub outcome_bad : (first_bad s ≡ 0 → ⊥) → personalised s out ≡ record { answer = first_bad s; image = out }
-    unfolding personalised
-    outcome_bad f = rw (le-ltb _ _ h, ne_eqb _ _ f)
-
-    pub outcome_good : first_bad s ≡ 0 → personalised s out ≡ record { answer = 0; image = encode (sheet_card s) ++ drop image_size out }
-    unfolding personalised
-    outcome_good e = rw (le-ltb _ _ h, eq-eqb _ _ e)
+-- THE OUTCOME of a good sheet
+pub outcome_good : (s out : List ℕ) → image_room ≤ length out → first_bad s ≡ 0
+    → personalised s out ≡ record { answer = 0; image = encode (sheet_card s) ++ drop image_size out }
+unfolding personalised
+outcome_good s out h e = rw (le-ltb _ _ h, eq-eqb _ _ e)
 
 -- what an image written from the front leaves
 pub written : {v out out' : List ℕ} {r : ℕ} → Wrote out 0 v out' r → length v ≡ image_size → image_room ≤ length out → out' ≡ v ++ drop image_size out

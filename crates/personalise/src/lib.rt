@@ -1,6 +1,6 @@
 // Personalisation, 01: the fresh card of a good sheet, and its image. The values are read again by their line's number, so that no
 // state is carried.
-#![tactic(auto)]
+#![tactic(auto, unfolding(crate::specs::Personalise::value_of, crate::specs::Personalise::sheet_codes, crate::specs::Personalise::sheet_fixed, crate::specs::Personalise::sheet_flags, crate::specs::Personalise::sheet_card, crate::specs::Personalise::personalised, sheet::specs::Sheet::some_line))]
 
 ghost use Rattle.std.specs.Prelude.{◌≡◌};
 ghost use Rattle.wire.specs.Wire.{pad};
@@ -11,7 +11,7 @@ ghost use Rattle.personalise.specs.Personalise.{value_of, sheet_codes, sheet_fix
 use card::{Card, Codes, Fixed, Flags, layout};
 use text::lines;
 
-// The answer for an image buffer that is too short.
+// The answer for an image buffer that is too short. Answers are numbers, as C has them.
 pub const NO_ROOM: u32 = 99;
 
 // The value of line k.
@@ -21,36 +21,27 @@ fn value_of(sheet: &[u8], k: u32) -> &[u8]
     lines::tail_after(lines::line_of(sheet, k), lines::TAB)
 }
 
-fn hex8(v: &[u8]) -> [u8; 8]
-    ensures { result ≡ pad 8 (unhex v.now) }
+// The bytes that the digits of line k spell, in their room.
+fn hex_at<const N: usize>(sheet: &[u8], k: u32) -> [u8; N]
+    ensures { result ≡ pad N (unhex (value_of k sheet.now)) }
 {
-    let mut a = [0u8; 8];
-    text::unhex(v, &mut a, 0);
-    a
+    let mut bytes = [0u8; N];
+    text::unhex(value_of(sheet, k), &mut bytes, 0);
+    bytes
 }
 
-fn hex16(v: &[u8]) -> [u8; 16]
-    ensures { result ≡ pad 16 (unhex v.now) }
+fn flag_at(sheet: &[u8], k: u32) -> u8
+    ensures { result ≡ flag_of (value_of k sheet.now) }
 {
-    let mut a = [0u8; 16];
-    text::unhex(v, &mut a, 0);
-    a
-}
-
-fn hex32(v: &[u8]) -> [u8; 32]
-    ensures { result ≡ pad 32 (unhex v.now) }
-{
-    let mut a = [0u8; 32];
-    text::unhex(v, &mut a, 0);
-    a
+    sheet::flag_of(value_of(sheet, k))
 }
 
 fn codes_of(sheet: &[u8]) -> Codes
     ensures { result ≡ sheet_codes sheet.now }
 {
     Codes {
-        pin1: hex32(value_of(sheet, 2)),
-        pin2: hex32(value_of(sheet, 3)),
+        pin1: hex_at(sheet, 2),
+        pin2: hex_at(sheet, 3),
     }
 }
 
@@ -58,19 +49,13 @@ fn fixed_of(sheet: &[u8]) -> Fixed
     ensures { result ≡ sheet_fixed sheet.now }
 {
     Fixed {
-        cid: hex8(value_of(sheet, 1)),
-        cvc: wire::pad3(value_of(sheet, 4)),
+        cid: hex_at(sheet, 1),
+        cvc: wire::padded(value_of(sheet, 4)),
         curve: sheet::curve_of(value_of(sheet, 5)),
         max: sheet::max_of(value_of(sheet, 6)),
-        seed: hex16(value_of(sheet, 14)),
+        seed: hex_at(sheet, 14),
         pause: sheet::pause_of(value_of(sheet, 15)),
     }
-}
-
-fn flag_at(sheet: &[u8], k: u32) -> u8
-    ensures { result ≡ flag_of (value_of k sheet.now) }
-{
-    sheet::flag_of(value_of(sheet, k))
 }
 
 fn flags_of(sheet: &[u8]) -> Flags
@@ -103,9 +88,8 @@ pub fn personalise(sheet: &[u8], image: &mut [u8]) -> u32
     if image.len() < layout::IMAGE_ROOM {
         return NO_ROOM;
     }
-    let bad = sheet::first_bad(sheet);
-    if bad != 0 {
-        return bad;
+    if let Some(line) = sheet::first_bad(sheet) {
+        return line;
     }
     writing::write(card_of(sheet), image);
     0

@@ -1,12 +1,12 @@
 // A recording played byte by byte, whatever pieces it comes in: bytes are held until they are a whole sheet or a whole line. Room is
 // needed for one byte more than the longest line, for an image and for a line that is printed; a call without it does nothing.
-#![tactic(auto)]
+#![tactic(auto, unfolding(crate::specs::Feed::played_held, crate::specs::Feed::lines_with, crate::specs::Feed::is_whole, crate::specs::Feed::roomy, crate::specs::Feed::fed, crate::specs::Feed::is_cut, crate::specs::Feed::closed, recording::specs::Step::leaves, sheet::specs::Sheet::belongs))]
 
 ghost use Rattle.std.specs.Prelude.{◌≡◌, [], ◌∷◌, true, length};
 ghost use Rattle.wire.specs.Wire.{fit, placed};
 ghost use Rattle.recording.specs.Step.{room_for, wrote};
 ghost use Rattle.recording.specs.Step as Recording;
-ghost use Rattle.player.specs.Feed.{at_first, after, played_held, lines_with, is_whole, left_by, roomy, held_with, taken, fed, is_cut, at_end, closed};
+ghost use Rattle.player.specs.Feed.{at_first, after, played_held, lines_with, is_whole, left_by, roomy, taken, fed, is_cut, at_end, closed};
 
 use recording::{Play, Turn};
 use tapline::LONGEST;
@@ -44,14 +44,14 @@ pub fn new() -> Player
 fn has_place(text: usize, img: usize, out: usize) -> bool
     ensures { result ≡ roomy text img out }
 {
-    wire::both(TEXT_ROOM <= text, recording::has_place(img, out))
+    TEXT_ROOM <= text && recording::has_place(img, out)
 }
 
 // The lines of the sheet after a byte.
 fn lines_with(b: u8, lines: u32) -> u32
     ensures { result ≡ lines_with b lines }
 {
-    if wire::both(b == lines::LINE_FEED, sheet::belongs(lines)) {
+    if b == lines::LINE_FEED && sheet::belongs(lines) {
         lines + 1
     } else {
         lines
@@ -61,9 +61,7 @@ fn lines_with(b: u8, lines: u32) -> u32
 fn is_whole(lines: u32, n: usize, b: u8) -> bool
     ensures { result ≡ is_whole lines n b }
 {
-    let over = wire::unless(sheet::belongs(lines_with(b, lines)));
-    let fed = wire::both(b == lines::LINE_FEED, over);
-    wire::either(TEXT_ROOM <= n, fed)
+    TEXT_ROOM <= n || b == lines::LINE_FEED && !sheet::belongs(lines_with(b, lines))
 }
 
 fn quiet(player: Player) -> Fed
@@ -76,10 +74,9 @@ fn quiet(player: Player) -> Fed
 fn after(t: Turn) -> Fed
     ensures { result ≡ record { player = after t.play; length = t.length } }
 {
-    let play = t.play;
     Fed {
         player: Player {
-            play,
+            play: t.play,
             lines: sheet::LINES,
             held: 0,
         },
@@ -93,20 +90,11 @@ fn play_held(p: Player, text: &[u8], img: &mut [u8], out: &mut [u8]) -> Turn
     ensures { Recording.left_by result img.new out.new
         ≡ wrote (played_held p.play p.lines text.now img.old) out.old }
 {
-    let lines = p.lines;
-    if sheet::belongs(lines) {
+    if sheet::belongs(p.lines) {
         recording::begin(text, img, out)
     } else {
         recording::step(p.play, text, img, out)
     }
-}
-
-fn hold(p: Player, b: u8, held: usize) -> Fed
-    ensures { result ≡ record { player = held_with p b held; length = 0 } }
-{
-    let play = p.play;
-    let lines = lines_with(b, p.lines);
-    quiet(Player { play, lines, held })
 }
 
 fn take(p: Player, b: u8, text: &mut [u8], img: &mut [u8], out: &mut [u8]) -> Fed
@@ -116,9 +104,14 @@ fn take(p: Player, b: u8, text: &mut [u8], img: &mut [u8], out: &mut [u8]) -> Fe
 {
     let n = wire::put8(text, p.held, b);
     if is_whole(p.lines, n, b) {
-        return after(play_held(p, wire::part(text, 0, n), img, out));
+        after(play_held(p, wire::part(text, 0, n), img, out))
+    } else {
+        quiet(Player {
+            lines: lines_with(b, p.lines),
+            held: n,
+            ..p
+        })
     }
-    hold(p, b, n)
 }
 
 // One more byte.
@@ -126,15 +119,16 @@ pub fn feed(p: Player, b: u8, text: &mut [u8], img: &mut [u8], out: &mut [u8]) -
     ensures { left_by result text.new img.new out.new ≡ fed p b text.old img.old out.old }
 {
     if has_place(text.len(), img.len(), out.len()) {
-        return take(p, b, text, img, out);
+        take(p, b, text, img, out)
+    } else {
+        quiet(p)
     }
-    quiet(p)
 }
 
 fn is_cut(lines: u32, held: usize) -> bool
     ensures { result ≡ is_cut lines held }
 {
-    wire::either(sheet::belongs(lines), 0 < held)
+    sheet::belongs(lines) || 0 < held
 }
 
 fn end(p: Player, text: &[u8], img: &mut [u8], out: &mut [u8]) -> Turn
@@ -142,9 +136,10 @@ fn end(p: Player, text: &[u8], img: &mut [u8], out: &mut [u8]) -> Turn
     ensures { Recording.left_by result img.new out.new ≡ wrote (at_end p text.now img.old) out.old }
 {
     if is_cut(p.lines, p.held) {
-        return play_held(p, wire::part(text, 0, p.held), img, out);
+        play_held(p, wire::part(text, 0, p.held), img, out)
+    } else {
+        recording::finish(p.play, img, out)
     }
-    recording::finish(p.play, img, out)
 }
 
 // The end of the bytes.
@@ -152,7 +147,8 @@ pub fn close(p: Player, text: &[u8], img: &mut [u8], out: &mut [u8]) -> Fed
     ensures { left_by result text.now img.new out.new ≡ closed p text.now img.old out.old }
 {
     if has_place(text.len(), img.len(), out.len()) {
-        return after(end(p, text, img, out));
+        after(end(p, text, img, out))
+    } else {
+        quiet(p)
     }
-    quiet(p)
 }

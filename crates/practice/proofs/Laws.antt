@@ -2,20 +2,20 @@
 use Prim.Native.Nat.{ℕ, ◌+◌, ◌≤◌}
 use native.Mathlib.Omega.{arith}
 use mathlib.Core.Path.{◌≡◌, refl, sym, ap, ◌∙◌}
-use mathlib.Core.Logic.{◌⊎◌, inl, inr}
 use mathlib.Core.List.{List, [], ◌∷◌, ◌++◌}
 use mathlib.Core.Bool.{Bool, true, false, cond}
-use lib.ListN.{length, drop, get_or, replicate, length-append, length-replicate}
+use lib.ListN.{length, drop, get_or, length-append, length-replicate}
 use lib.Seq.{take_at}
 use lib.Dec.{leb, eqb}
-use borrow.Author.Tests.{leb-true, eq-eqb, eqb-false}
-use denote.Enum.Declared.{tag_of}
+use borrow.Author.Tests.{leb-true, eq-eqb}
+use denote.Bor.{Bor}
+use Rattle.std.specs.Prelude.{Ok, Err}
 use Rattle.wire.specs.Wire.{part, Wrote, Wrotes, joined, be2}
 use Rattle.wire.proofs.Laws.{runs, all_run, then, front, both_true, part_plain, never}
-use Rattle.wire.specs.declared.Check.{Check}
 use Rattle.fields.specs.Fields.{View, view_of, fld, each, written, well_formed}
-use Rattle.sent.specs.Sent.{words, view_by, Filled}
-use Rattle.sent.proofs.Laws.{same_view, fill_form}
+use Rattle.sent.specs.declared.Sent.{Sent}
+use Rattle.sent.specs.Sent.{view, unwalked, Walked}
+use Rattle.sent.proofs.Laws.{walked_view, walked_form}
 use Rattle.card.specs.declared.Card.{Card}
 use Rattle.card.specs.Layout.{held_room, pending_at, image_size, image_room}
 use Rattle.card.specs.Values.{no_wait, held_request, no_pending}
@@ -24,17 +24,15 @@ use Rattle.card.specs.Shape.{Shape}
 use Rattle.cards.proofs.Shape.{length_encode, shape_with_pending}
 use Rattle.cards.proofs.Round.{decode_encode}
 use Rattle.manual.specs.declared.Command.{Command}
-use Rattle.manual.specs.declared.Verdict.{Verdict}
-use Rattle.manual.specs.declared.Verdict.TheVariants.{Pass, Stop}
+use Rattle.manual.specs.declared.Refusal.{Refusal}
 use Rattle.manual.specs.declared.Pace.{Pace}
 use Rattle.manual.specs.declared.Pace.TheVariants.{Refused, Waits, Goes}
-use Rattle.manual.specs.contracts.Pace as the_pace
 use Rattle.manual.specs.declared.Outcome.{Outcome}
 use Rattle.manual.specs.Words.{sw_wrong_length, sw_cla_not_supported, sw_ins_not_supported, sw_process_completed, sw_error_processing_command, sw_need_pause}
 use Rattle.manual.specs.Words.{questions_room, response_room}
 use Rattle.manual.specs.Tags.{CID}
 use Rattle.manual.specs.Request.{lc_of, fits, ins_of, listed, command, payload, body_in}
-use Rattle.manual.specs.Row.{Matched, passed, asked, each_asked, shaped}
+use Rattle.manual.specs.Row.{Matched, Verdict, stop, passed, asked, each_asked, shaped}
 use Rattle.manual.specs.Commands.{row}
 use Rattle.manual.specs.Delay.{pace_by, seconds}
 use Rattle.manual.specs.Settle.{Said, settled_by, outcome, refused, silent, done, answered, said, pace_of, leaving, paced, card_after, over}
@@ -86,7 +84,7 @@ module _ (k : Command) (m : List ℕ) (v : View) (a nxt : List ℕ) (l : length 
       ∙ decode_encode c left_shape
 
 -- the change that goes with check 13: the command's own, or none
-pub made_by_lem : (c : Card) (v : View) (a rest : List ℕ) {nxt : List ℕ} (k : Command) {j : Command} {s t : Check} → j ≡ made_by k s → s ≡ t
+pub made_by_lem : (c : Card) (v : View) (a rest : List ℕ) {nxt : List ℕ} (k : Command) {j : Command} {s t : Bool} → j ≡ made_by k s → s ≡ t
     → nxt ≡ encode (left_card j c v a) ++ rest → nxt ≡ encode (left_card (made_by k t) c v a) ++ rest
 made_by_lem c v a rest k e f h = h ∙ ap (λ i. encode (left_card i c v a) ++ rest) (e ∙ ap (made_by k) f)
 
@@ -132,18 +130,17 @@ unfolding roomy
 rooms a b e = let z = both_true (leb response_room a) (leb image_room b) e in (leb-true _ _ z.0, leb-true _ _ z.1)
 
 -- CHECKS 1 TO 3 refuse before any code is looked at
-module _ (c : Card) (q : List ℕ) {h : Verdict} {n a : ℕ} (eh : h ≡ head_of q) (d : h ≡ Stop n a) where
-  pub stopped : judged (matched c.codes (sent_in q)) c.face q ≡ Stop n a
+module _ (c : Card) (q : List ℕ) {h : Verdict} {e : Refusal} (eh : h ≡ head_of q) (d : h ≡ Err e) where
+  pub stopped : judged (matched c.codes (sent_in q)) c.face q ≡ Err e
   stopped = at_head (well_formed (payload q)) c (sent_in q) q eh d
 
   abbrev pace : Verdict → Pace
   pace g = pace_in g (command q) c (sent_in q) q
 
-  early : (x y z : Bool)
-      → cond x (cond y (cond z (passed q) (Stop 3 sw_ins_not_supported)) (Stop 2 sw_cla_not_supported)) (Stop 1 sw_wrong_length) ≡ Stop n a
-      → pace (Stop n a) ≡ Refused false
+  early : (x y z : Bool) → cond x (cond y (cond z (passed q) (stop 3 sw_ins_not_supported)) (stop 2 sw_cla_not_supported)) (stop 1 sw_wrong_length) ≡ Err e
+      → pace (Err e) ≡ Refused false
   unfolding pace_by
-  early true true true e = let u : ◌≡◌ {A = ℕ} 0 1 = cc in absurd (omega arith)
+  early true true true e = cc
   early true true false e = ap pace (sym e)
   early true false z e = ap pace (sym e)
   early false y z e = ap pace (sym e)
@@ -153,27 +150,27 @@ module _ (c : Card) (q : List ℕ) {h : Verdict} {n a : ℕ} (eh : h ≡ head_of
   stopped_pace = ap pace stopped ∙ early (fits (lc_of q)) (eqb (get_or q 0 0) 0) (listed (ins_of (get_or q 1 0))) (sym eh ∙ d)
 
 -- ONE WALK of a request that passed checks 1 to 3 sees what it sends, and judges as the meaning does
-module _ {p l : List ℕ} {w : Bool} {h : Verdict} {k : Command} (q : List ℕ) (eh : h ≡ head_of q) (dh : h ≡ Pass k) (ep : p ≡ body_in q)
-    (f : Filled p (replicate words 0) w l) where
-  has_payload : p ≡ payload q
+module _ {p : Bor (List ℕ)} {u s : Sent} {h : Verdict} {k : Command} (q : List ℕ) (eh : h ≡ head_of q) (dh : h ≡ Ok k) (ep : p.now ≡ body_in q)
+    (n : u ≡ unwalked p) (w : Walked u s) where
+  has_payload : p.now ≡ payload q
   has_payload = ep ∙ body_is q (heads q eh dh)
 
-  pub read_view : view_by p l ≡ sent_in q
+  pub read_view : view s ≡ sent_in q
   unfolding sent_in
-  read_view = ap (view_by p) f.places ∙ same_view p (omega (arith, ap length has_payload, payload_short q)) ∙ ap view_of has_payload
+  read_view = walked_view n w (omega (arith, ap length has_payload, payload_short q)) ∙ ap view_of has_payload
 
-  pub judged_read : (c : Card) {v : Verdict} → v ≡ later_of k w c (view_by p l) q → v ≡ judged (matched c.codes (sent_in q)) c.face q
+  pub judged_read : (c : Card) {v : Verdict} → v ≡ later_of k s.whole c (view s) q → v ≡ judged (matched c.codes (sent_in q)) c.face q
   judged_read c e =
-      let z = fill_form f ∙ ap well_formed has_payload in
-      e ∙ sym (past_head w c (view_by p l) q eh dh) ∙ (λ i. judged_by (z i) (read_view i) (matched c.codes (read_view i)) c.face q)
+      let z = walked_form n w ∙ ap well_formed has_payload in
+      e ∙ sym (past_head s.whole c (view s) q eh dh) ∙ (λ i. judged_by (z i) (read_view i) (matched c.codes (read_view i)) c.face q)
 
-  pub pace_read : (c : Card) {v : Verdict} {s : Pace} → v ≡ later_of k w c (view_by p l) q → s ≡ pace_in v k c (view_by p l) q
-      → s ≡ pace_of (matched c.codes (sent_in q)) c.face q
+  pub pace_read : (c : Card) {v : Verdict} {t : Pace} → v ≡ later_of k s.whole c (view s) q → t ≡ pace_in v k c (view s) q
+      → t ≡ pace_of (matched c.codes (sent_in q)) c.face q
   unfolding pace_of
   pace_read c e es = es ∙ (λ i. pace_in (judged_read c e i) (head_command q eh dh i) c (read_view i) q)
 
 -- a request that passes is of the command that its checks were made for, and has its fields
-module _ (c : Card) (q : List ℕ) (k : Command) {j : Command} (ek : k ≡ command q) (e : judged (matched c.codes (sent_in q)) c.face q ≡ Pass j) where
+module _ (c : Card) (q : List ℕ) (k : Command) {j : Command} (ek : k ≡ command q) (e : judged (matched c.codes (sent_in q)) c.face q ≡ Ok j) where
   same_command : j ≡ k
   same_command = command_of_lem (well_formed (payload q)) (sent_in q) (matched c.codes (sent_in q)) c.face q e ∙ sym ek
 
@@ -201,11 +198,11 @@ module _ (c : Card) (q d out : List ℕ) where
   asked_by Goes h e eg = rw (e, eg) refl
 
   module _ (s : Pace) (h : is_waiting s ≡ false) (es : pace_of m c.face q ≡ s) where
-    pub asked_stop : {n w : ℕ} → judged m c.face q ≡ Stop n w → asked_from c q d out ≡ posed_by (outcome 0 n w 0) out
+    pub asked_stop : {e : Refusal} → judged m c.face q ≡ Err e → asked_from c q d out ≡ posed_by (outcome 0 e.check e.word 0) out
     unfolding asked each_asked joined
     asked_stop e = asked_by s h es e
 
-    pub asked_pass : (k : Command) {j : Command} → k ≡ command q → judged m c.face q ≡ Pass j
+    pub asked_pass : (k : Command) {j : Command} → k ≡ command q → judged m c.face q ≡ Ok j
         → asked_from c q d out ≡ posed 0 sw_process_completed (asked ((row k).questions c.face (sent_in q) d)) out
     asked_pass k ek e =
         asked_by s h es e ∙ ap (λ i. posed 0 sw_process_completed (asked ((row i).questions c.face (sent_in q) d)) out) (same_command c q k ek e)
@@ -225,36 +222,35 @@ poses {v} {out} n w e s = (λ i. posed_by (e i) (s.bytes i)) ∙ ap (λ l. posed
 
 -- SETTLE BY ITS PACE AND ITS VERDICT
 never_refused : (t : ℕ) (x b : Bool) → cond x Goes (Waits t) ≡ Refused b → ⊥
-never_refused t true b e = let u : ◌≡◌ {A = ℕ} 0 1 = cc in omega arith
-never_refused t false b e = let u : ◌≡◌ {A = ℕ} 0 1 = cc in omega arith
+never_refused t true b e = cc
+never_refused t false b e = cc
 
 module _ (c : Card) (q d a out nxt : List ℕ) where
   abbrev codes : Matched
   codes = matched c.codes (sent_in q)
 
-  pub settled_stop : (s : Pace) {n w : ℕ} → pace_of codes c.face q ≡ s → judged codes c.face q ≡ Stop n w
-      → settled_of c q d a out nxt ≡ held_in s (Stop n w) c q out nxt
+  pub settled_stop : (s : Pace) {x : Refusal} → pace_of codes c.face q ≡ s → judged codes c.face q ≡ Err x
+      → settled_of c q d a out nxt ≡ held_in s (Err x) c q out nxt
   unfolding settled_of paced said lent
   settled_stop (Refused b) es e = rw (es, e) refl
   settled_stop (Waits t) es e = rw es refl
   settled_stop Goes es e = rw (es, e) refl
 
   -- what passes is not refused
-  pass_paced : {k : Command} (b : Bool) → judged codes c.face q ≡ Pass k → pace_of codes c.face q ≡ Refused b → ⊥
+  pass_paced : {k : Command} (b : Bool) → judged codes c.face q ≡ Ok k → pace_of codes c.face q ≡ Refused b → ⊥
   unfolding pace_of pace_by
   pass_paced b e es =
       let t = seconds (row (command q)) c.face (sent_in q) q in
       never_refused t (eqb t 0) b (rw e at es)
 
-  -- the pace is not Goes
-  pub settled_held : (s : Pace) → (tag_of the_pace.the_type s ≡ 0) ⊎ (tag_of the_pace.the_type s ≡ 1) → pace_of codes c.face q ≡ s
-      → (g : Verdict) → judged codes c.face q ≡ g → settled_of c q d a out nxt ≡ held_in s g c q out nxt
+  -- what does not pass, or does not go on
+  pub settled_held : (s : Pace) (g : Verdict) → ((k : Command) → s ≡ Goes → g ≡ Ok k → ⊥) → pace_of codes c.face q ≡ s → judged codes c.face q ≡ g
+      → settled_of c q d a out nxt ≡ held_in s g c q out nxt
   unfolding settled_of paced lent
-  settled_held (Refused b) h es (Stop n w) e = settled_stop (Refused b) es e
-  settled_held (Refused b) h es (Pass k) e = absurd (pass_paced b e es)
-  settled_held (Waits t) h es g e = rw es refl
-  settled_held Goes (inl h) es g e = absurd (eqb-false 2 0 refl h)
-  settled_held Goes (inr h) es g e = absurd (eqb-false 2 1 refl h)
+  settled_held s (Err x) h es e = settled_stop s es e
+  settled_held (Refused b) (Ok k) h es e = absurd (pass_paced b e es)
+  settled_held (Waits t) (Ok k) h es e = rw es refl
+  settled_held Goes (Ok k) h es e = absurd (h k refl refl)
 
   abbrev ways : Command → Bool → Bool → Said
   ways k s t =
@@ -262,14 +258,14 @@ module _ (c : Card) (q d a out nxt : List ℕ) where
       (cond s (cond t (done (row k) codes c.face (sent_in q) d a) (refused 13 sw_error_processing_command c.face)) (silent 4 c.face))
 
   by_ways : (k : Command) → k ≡ command q → (s t : Bool) → lent (ways k s t) (card_after (ways k s t) c.codes q) out nxt
-      ≡ cond s (cond t (done_in k c (sent_in q) d a out nxt) (refused_in no_pending (Stop 13 sw_error_processing_command) c out nxt)) (untouched 4 out nxt)
+      ≡ cond s (cond t (done_in k c (sent_in q) d a out nxt) (refused_in no_pending (stop 13 sw_error_processing_command) c out nxt)) (untouched 4 out nxt)
   unfolding done_in lent done
   by_ways k e true true =
       ap (λ j. lent (ways k true true) (record { face = (left_card k c (sent_in q) a).face; codes = (row j).recode (sent_in q) c.codes }) out nxt) (sym e)
   by_ways k e true false = refl
   by_ways k e false t = refl
 
-  pub settled_pass : (k : Command) {j : Command} → k ≡ command q → pace_of codes c.face q ≡ Goes → judged codes c.face q ≡ Pass j
+  pub settled_pass : (k : Command) {j : Command} → k ≡ command q → pace_of codes c.face q ≡ Goes → judged codes c.face q ≡ Ok j
       → settled_of c q d a out nxt ≡ answered_in k c (sent_in q) d a out nxt
   unfolding settled_of paced said answered answered_in confirmed_in
   settled_pass k {j} ek es e =

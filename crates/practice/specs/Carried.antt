@@ -1,8 +1,6 @@
 -- What settle leaves of a card c, by its parts: of a request that waits or is refused, and, by its answers, of a command whose checks 1 to 12 have passed; v
 -- is the view of the payload. Assumes nothing.
 use Rattle.std.specs.Prelude.{ℕ, ◌≡◌, List, Bool, true, false, cond, length}
-use Rattle.wire.specs.declared.Check.{Check}
-use Rattle.wire.specs.declared.Check.TheVariants.{Fine, Failed}
 use Rattle.fields.specs.Fields.{View}
 use Rattle.card.specs.declared.Pending.{Pending}
 use Rattle.card.specs.declared.Card.{Card}
@@ -11,10 +9,8 @@ use Rattle.manual.specs.declared.Command.{Command}
 use Rattle.manual.specs.declared.Command.TheVariants.{ReadCard}
 use Rattle.manual.specs.declared.Pace.{Pace}
 use Rattle.manual.specs.declared.Pace.TheVariants.{Refused, Waits, Goes}
-use Rattle.manual.specs.declared.Verdict.{Verdict}
-use Rattle.manual.specs.declared.Verdict.TheVariants.{Stop}
 use Rattle.manual.specs.Words.{sw_error_processing_command}
-use Rattle.manual.specs.Row.{shaped}
+use Rattle.manual.specs.Row.{shaped, Verdict, stop}
 use Rattle.manual.specs.Commands.{row}
 use Rattle.manual.specs.Settle.{Settled, word_of, reason_of, matched, done, refused, pausing, waiting, over, lent, untouched}
 use Rattle.manual.specs.Delay.{pace_by, pending_after}
@@ -56,14 +52,14 @@ unfoldable pub done_in : Command → Card → View → List ℕ → List ℕ →
 done_in k c v d a out nxt = lent (done (row k) (matched c.codes v) c.face v d a) (left_card k c v a) out nxt
 
 -- the change that goes with check 13: the command's own where it is confirmed, and READ_CARD's, which is none, where it is not
-abbrev pub made_by : Command → Check → Command
-made_by k Fine = k
-made_by k Failed = ReadCard
+abbrev pub made_by : Command → Bool → Command
+made_by k true = k
+made_by k false = ReadCard
 
 -- check 13, then the command
 unfoldable pub confirmed_in : Command → Card → View → List ℕ → List ℕ → List ℕ → List ℕ → Settled
 confirmed_in k c v d a out nxt =
-    cond ((row k).confirmed a) (done_in k c v d a out nxt) (refused_in no_pending (Stop 13 sw_error_processing_command) c out nxt)
+    cond ((row k).confirmed a) (done_in k c v d a out nxt) (refused_in no_pending (stop 13 sw_error_processing_command) c out nxt)
 
 -- number 4, then check 13, then the command
 unfoldable pub answered_in : Command → Card → View → List ℕ → List ℕ → List ℕ → List ℕ → Settled

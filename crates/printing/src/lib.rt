@@ -1,10 +1,9 @@
 // The lines that a play prints, Ask 4. All functions are total: a write without room changes nothing. Each promises too how long its
 // line can be, so that a caller knows what room there must be.
-#![tactic(auto)]
+#![tactic(auto, using(crate::proofs::Laws::told_short), unfolding(crate::specs::Printing::told_as, crate::specs::Printing::sameness))]
 
-ghost use Rattle.std.specs.Prelude.{◌≡◌, ◌+◌, ◌*◌, ◌≤◌, [], ◌∷◌, length};
+ghost use Rattle.std.specs.Prelude.{◌≡◌, ◌+◌, ◌*◌, ◌≤◌, length};
 ghost use Rattle.wire.specs.Wire.{alike, Wrote, Wrotes};
-ghost use Rattle.text.specs.Text.{decimal_of};
 ghost use Rattle.printing.specs.Printing.{told_as, sameness, tap_parts, tap_text, sums_parts, sums_text, bad_parts, bad_text};
 
 use text::lines;
@@ -15,37 +14,27 @@ pub fn put_told(out: &mut [u8], number: u8, response: &[u8]) -> usize
         × (length (told_as number response.now) ≤ 2 * length response.now + 10) }
 {
     if number == 0 {
-        return text::put_hex(out, 0, response);
+        text::put_hex(out, 0, response)
+    } else {
+        text::put_decimal(out, 0, number as u32)
     }
-    text::put_decimal(out, 0, number as u32)
 }
 
 // A response with which the expected one only begins is another.
 pub fn is_same(expected: &[u8], told: &[u8]) -> bool
     ensures { result ≡ alike expected.now told.now }
 {
-    let n = told.len();
-    wire::both(
-        expected.len() == n,
-        wire::equal(wire::part(expected, 0, n), told),
-    )
+    wire::equal(expected, told)
 }
 
 fn put_sameness(out: &mut [u8], at: usize, same: bool) -> usize
     ensures { Wrote out.old at (sameness same) out.new result }
 {
     if same {
-        return wire::put_bytes(out, at, b"same");
+        wire::put_bytes(out, at, b"same")
+    } else {
+        wire::put_bytes(out, at, b"other")
     }
-    wire::put_bytes(out, at, b"other")
-}
-
-// A number, and the byte after it.
-fn put_number(out: &mut [u8], at: usize, n: u32, end: u8) -> usize
-    ensures { (Wrotes out.old at (decimal_of n ∷ (end ∷ []) ∷ []) out.new result) × (length (decimal_of n) ≤ 10) }
-{
-    let a = text::put_decimal(out, at, n);
-    wire::put8(out, a, end)
 }
 
 // Of a tap.
@@ -53,7 +42,7 @@ pub fn put_tap(out: &mut [u8], n: u32, same: bool, told: &[u8]) -> usize
     ensures { (Wrotes out.old 0 (tap_parts n same told.now) out.new result)
         × (length (tap_text n same told.now) ≤ length told.now + 18) }
 {
-    let b = put_number(out, 0, n, lines::TAB);
+    let b = text::put_decimal_then(out, 0, n, lines::TAB);
     let c = put_sameness(out, b, same);
     let d = wire::put8(out, c, lines::TAB);
     let e = wire::put_bytes(out, d, told);
@@ -65,10 +54,10 @@ pub fn put_sums(out: &mut [u8], remaining: u32, signed: u32, made: u32, hashes: 
     ensures { (Wrotes out.old 0 (sums_parts remaining signed made hashes) out.new result)
         × (length (sums_text remaining signed made hashes) ≤ 44) }
 {
-    let a = put_number(out, 0, remaining, lines::TAB);
-    let b = put_number(out, a, signed, lines::TAB);
-    let c = put_number(out, b, made, lines::TAB);
-    put_number(out, c, hashes, lines::LINE_FEED)
+    let a = text::put_decimal_then(out, 0, remaining, lines::TAB);
+    let b = text::put_decimal_then(out, a, signed, lines::TAB);
+    let c = text::put_decimal_then(out, b, made, lines::TAB);
+    text::put_decimal_then(out, c, hashes, lines::LINE_FEED)
 }
 
 // Of a line that ends the play.
@@ -77,5 +66,5 @@ pub fn put_bad(out: &mut [u8], line: u32) -> usize
 {
     let a = wire::put_bytes(out, 0, b"line");
     let b = wire::put8(out, a, lines::TAB);
-    put_number(out, b, line, lines::LINE_FEED)
+    text::put_decimal_then(out, b, line, lines::LINE_FEED)
 }

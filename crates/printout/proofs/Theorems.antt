@@ -8,8 +8,9 @@ use mathlib.Core.Logic.{⊎_elim}
 use lib.ListN.{take}
 use Rattle.wire.specs.Wire.{joined}
 use Rattle.notes.specs.declared.Note.{Note}
-use Rattle.shelf.specs.declared.Outcome.{Outcome}
-use Rattle.shelf.specs.declared.Outcome.TheVariants.{Done, BadLine, Clash, Full, NoRoom}
+use Rattle.shelf.specs.Outcome.{Outcome}
+use Rattle.std.proofs.Common.{Ok, Err}
+use Rattle.shelf.specs.declared.Refusal.TheVariants.{BadLine, Clash, Full, NoRoom}
 use Rattle.shelf.specs.Shelf.{most, is_book}
 use Rattle.union.specs.Union.{merged, join_of}
 use Rattle.booktext.specs.BookText.{Book, meaning, text_of}
@@ -28,11 +29,11 @@ module _ (f s : List Note) where
   -- only a join that is done prints its notes
   same_notes : (o : Outcome) → join_of most f s ≡ o → printed o (merged f s) ≡ printed o (merged s f)
   unfolding printed
-  same_notes (Done k) e = rw (either_notes most f s k e)
-  same_notes (BadLine b k) e = refl
-  same_notes (Clash t k) e = refl
-  same_notes Full e = refl
-  same_notes NoRoom e = refl
+  same_notes (Ok k) e = rw (either_notes most f s k e)
+  same_notes (Err (BadLine b k)) e = refl
+  same_notes (Err (Clash t k)) e = refl
+  same_notes (Err Full) e = refl
+  same_notes (Err NoRoom) e = refl
 
   pub either_print : is_book f ≡ true → is_book s ≡ true → handed_parts (Book f) (Book s) ≡ handed_parts (Book s) (Book f)
   unfolding handed_parts outcome_of union_of
@@ -46,7 +47,7 @@ pub either_texts : (s t : List ℕ) (f g : List Note) → meaning s ≡ Book f �
 either_texts s t f g p q = rw (p, q) (either_text f g (means_a_book s f p) (means_a_book t g q))
 
 -- A BOOK AGAIN: a join that is done is printed as the text of the union
-pub done_print : (f g : List Note) (n : ℕ) → join_of most f g ≡ Done n → handed_text (Book f) (Book g) ≡ text_of (merged f g)
+pub done_print : (f g : List Note) (n : ℕ) → join_of most f g ≡ Ok n → handed_text (Book f) (Book g) ≡ text_of (merged f g)
 unfolding handed_text handed_parts outcome_of union_of printed text_of
 done_print f g n e = rw e
 
@@ -62,7 +63,7 @@ unfolding Each
 each_of [] h = tt
 each_of (x ∷ l) h = (h x (here refl), each_of l (λ y i. h y (there i)))
 
-module _ (f g : List Note) (n : ℕ) (e : join_of most f g ≡ Done n) where
+module _ (f g : List Note) (n : ℕ) (e : join_of most f g ≡ Ok n) where
   pub union_book : is_book (merged f g) ≡ true
   union_book = (each_once most f g n e).0.book
 
@@ -73,11 +74,11 @@ module _ (f g : List Note) (n : ℕ) (e : join_of most f g ≡ Done n) where
   union_back p q = rw (done_print f g n e) (text_back (merged f g) union_book (union_ranges p q))
 
 pub print_back :
-    (s t : List ℕ) (f g : List Note) (n : ℕ) → meaning s ≡ Book f → meaning t ≡ Book g → join_of most f g ≡ Done n → meaning (print_of s t) ≡ Book (merged f g)
+    (s t : List ℕ) (f g : List Note) (n : ℕ) → meaning s ≡ Book f → meaning t ≡ Book g → join_of most f g ≡ Ok n → meaning (print_of s t) ≡ Book (merged f g)
 print_back s t f g n p q e = rw (p, q) (union_back f g n e (means_ranges s f p) (means_ranges t g q))
 
 -- HANDED OVER AGAIN: the two books and the union are a grouping of the same two books, so that nothing is refused and nothing comes in
-module _ (f g : List Note) (n : ℕ) (e : join_of most f g ≡ Done n) where
+module _ (f g : List Note) (n : ℕ) (e : join_of most f g ≡ Ok n) where
   abbrev both : Joins
   both = join (one f) (one g)
 
@@ -112,7 +113,7 @@ module _ (f g : List Note) (n : ℕ) (e : join_of most f g ≡ Done n) where
 
 -- the same of texts
 pub again_texts :
-    (s t : List ℕ) (f g : List Note) (n : ℕ) → meaning s ≡ Book f → meaning t ≡ Book g → join_of most f g ≡ Done n
+    (s t : List ℕ) (f g : List Note) (n : ℕ) → meaning s ≡ Book f → meaning t ≡ Book g → join_of most f g ≡ Ok n
     → (print_of (print_of s t) s ≡ print_of s t) × (print_of (print_of s t) t ≡ print_of s t)
 again_texts s t f g n p q e =
     let h = print_back s t f g n p q e in

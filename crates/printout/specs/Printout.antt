@@ -1,17 +1,17 @@
 -- What the theorems of a print speak of, Ask 8: a refusal, a print of two texts that is a book, that print handed over again. Assumes nothing.
-use Rattle.std.specs.Prelude.{ℕ, ◌≡◌, List, length}
+use Rattle.std.specs.Prelude.{ℕ, ◌≡◌, List, length, Ok, Err}
 use Rattle.notes.specs.declared.Note.{Note}
-use Rattle.shelf.specs.declared.Outcome.{Outcome}
-use Rattle.shelf.specs.declared.Outcome.TheVariants.{Done, BadLine, Clash, Full}
+use Rattle.shelf.specs.Outcome.{Outcome}
+use Rattle.shelf.specs.declared.Refusal.TheVariants.{BadLine, Clash, Full}
 use Rattle.union.specs.Union.{merged}
 use Rattle.booktext.specs.BookText.{Book, meaning, text_of}
 use Rattle.handed.specs.Handed.{outcome_of, union_of, handed_text}
 
 -- A REFUSAL: a bad line, a clash, or more than 256 notes
 pub data Refused : Outcome → Type 0 where
-  bad : {b k : ℕ} → Refused (BadLine b k)
-  clash : {t n : ℕ} → Refused (Clash t n)
-  full : Refused Full
+  bad : {b k : ℕ} → Refused (Err (BadLine b k))
+  clash : {t n : ℕ} → Refused (Err (Clash t n))
+  full : Refused (Err Full)
 
 -- what handover prints for two texts
 abbrev pub print_of : List ℕ → List ℕ → List ℕ
@@ -26,5 +26,5 @@ pub record Again (f g : List Note) : Type 0 where
 
 -- A PRINT THAT IS THE BOOK l: the join is done, and l is the union
 pub record PrintedBook (s t : List ℕ) (l : List Note) : Type 0 where
-  pub outcome : outcome_of (meaning s) (meaning t) ≡ Done (length l)
+  pub outcome : outcome_of (meaning s) (meaning t) ≡ Ok (length l)
   pub union : union_of (meaning s) (meaning t) ≡ l

@@ -4,4 +4,4 @@ use Rattle.wire.proofs.Unique.{one_page}
 use Rattle.questions.specs.contracts.pose as pose
 
 pub pose_one : OneOutcome pose.ended (λ M 𝓤. pose.clauses {𝓤 = 𝓤})
-pose_one M 𝓤 𝓛 m r κs a g z z' ws ws' = plain 𝓤 (λ p q. let e = one_page p q in (e.1, λ i. (tt, (tt, (tt, (tt, (tt, (e.0 i, tt))))))))
+pose_one M 𝓤 𝓛 m r κs a g z z' ws ws' = plain 𝓤 (λ p q. let e = one_page p q in (e.1, λ i. (tt, (tt, (tt, (tt, (e.0 i, tt)))))))

@@ -8,7 +8,7 @@ use lib.ListN.{length, take, drop}
 use lib.Seq.{take_at}
 use lib.Dec.{leb, ltb, eqb}
 use borrow.Author.Tests.{leb-true, eqb-true, eq-eqb}
-use Rattle.text.specs.declared.Number.{Number}
+use Rattle.std.specs.Prelude.{Some, None}
 use Rattle.text.specs.Text.{decimal, plain_decimal, fitting, number_of}
 use Rattle.wire.proofs.Laws.{by_cases}
 use Rattle.card.specs.Layout.{image_size, image_room, top32}
@@ -85,7 +85,7 @@ max_fits s = go (plain_decimal (value_of 6 s)) (leb (decimal (value_of 6 s)) top
   where
     go :
         (a b : Bool) → leb (decimal (value_of 6 s)) top32 ≡ b
-        → count_of (cond a (cond b (Number.Is (decimal (value_of 6 s))) Number.None) Number.None) ≤ top32
+        → count_of (cond a (cond b (Some (decimal (value_of 6 s))) None) None) ≤ top32
     go true true e = leb-true _ _ e
     go true false e = omega arith
     go false b e = omega arith

@@ -3,13 +3,13 @@ use Prim.Native.Nat.{ℕ, ◌≤◌, ◌<◌}
 use native.Mathlib.Omega.{arith}
 use mathlib.Core.Path.{◌≡◌, refl, sym, ap, ◌∙◌, subst}
 use mathlib.Core.List.{List, ◌++◌}
-use mathlib.Core.Bool.{Bool, true, false, cond, not, ◌&&◌}
+use mathlib.Core.Bool.{true, false}
 use lib.ListN.{length, take, drop, length-append}
 use lib.Seq.{take_at}
 use lib.Dec.{leb, ltb, eqb}
-use borrow.Author.Tests.{eqb-true, leb-true, ltb-true}
+use borrow.Author.Tests.{leb-true, ltb-true}
 use Rattle.wire.specs.Wire.{part, alike, Wrote, Wrotes, joined}
-use Rattle.wire.proofs.Laws.{by_cases, never, both_true, runs, front, filled, all_run, part_plain, part_none, part_small, length_part}
+use Rattle.wire.proofs.Laws.{by_cases, both_true, runs, front, filled, all_run, part_plain, part_none, part_small, length_part}
 use Rattle.text.specs.Text.{unhex}
 use Rattle.text.specs.Lines.{head_to, tail_after, ended}
 use Rattle.text.proofs.Laws.{length_unhex}
@@ -22,9 +22,8 @@ use Rattle.manual.specs.Settle.{holding, Call, Settled, Said, settled, settled_o
 use Rattle.story.specs.Buffers.{response}
 use Rattle.tapline.specs.Line.{request_in, draw_in, answers_in, longest, is_tap_line}
 use Rattle.printing.specs.Printing.{told_as, tap_text}
-use Rattle.recording.specs.declared.Play.{Play}
 use Rattle.recording.specs.Recording.{most_taps, field_room}
-use Rattle.recording.specs.Step.{Stepped, nothing, is_next, Says, Left, line_room, room_for, left_by, wrote, leaves}
+use Rattle.recording.specs.Step.{is_next, Says, line_room}
 
 -- A FIELD is no longer than its line, and spells half as many bytes
 halved : (v l : List ℕ) → length v ≤ length l → length l ≤ longest → length (unhex v) ≤ field_room
@@ -102,38 +101,6 @@ pub same_line :
     {n n' : ℕ} {e e' : List ℕ} {k k' : ℕ} {v v' : List ℕ}
     → n ≡ n' → e ≡ e' → k ≡ k' → v ≡ v' → tap_text n (alike e (told_as k v)) (told_as k v) ≡ tap_text n' (alike e' (told_as k' v')) (told_as k' v')
 same_line a b c d = λ j. tap_text (a j) (alike (b j) (told_as (c j) (d j))) (told_as (c j) (d j))
-
--- A CALL THAT GOES ON, and one that does nothing
-pub room_for_lem : (image out : ℕ) → room_for image out ≡ true → (image ≡ image_size) × (line_room ≤ out)
-unfolding room_for
-room_for_lem image out e = let b = both_true (eqb image image_size) (leb line_room out) e in (eqb-true image image_size b.0, leb-true line_room out b.1)
-
-pub not_ended : (a b : Bool) → (not a && b) ≡ true → (a ≡ false) × (b ≡ true)
-not_ended true b e = absurd (never e)
-not_ended false b e = (refl, e)
-
--- with room a call leaves what its step says
-pub all_left : (y : Play) (m out : List ℕ) (z : Stepped) → room_for (length m) (length out) ≡ true → leaves y m out z ≡ wrote z out
-unfolding leaves
-all_left y m out z e = rw e refl
-
-pub goes : (y : Play) (m out : List ℕ) (z : Stepped) → (not y.ended && room_for (length m) (length out)) ≡ true → leaves y m out z ≡ wrote z out
-goes y m out z e = all_left y m out z (not_ended y.ended (room_for (length m) (length out)) e).1
-
-pub stays :
-    (y : Play) (m out : List ℕ) (z : Stepped)
-    → (not y.ended && room_for (length m) (length out)) ≡ false → (y.ended ≡ true → z ≡ nothing y m)
-    → leaves y m out z ≡ left_by (record { play = y; length = 0 }) m out
-unfolding leaves
-stays y m out z e f = go y.ended refl (room_for (length m) (length out)) refl
-  where
-    done : Left
-    done = left_by (record { play = y; length = 0 }) m out
-
-    go : (a : Bool) → y.ended ≡ a → (b : Bool) → room_for (length m) (length out) ≡ b → cond (room_for (length m) (length out)) (wrote z out) done ≡ done
-    go a p false q = rw q refl
-    go true p true q = rw q (ap (λ w. wrote w out) (f p))
-    go false p true q = absurd (never (sym e ∙ rw (p, q) refl))
 
 -- A LINE THAT IS THE NEXT TAP is not too long, and not one too many
 pub next_tap : (taps : ℕ) (s : List ℕ) → is_next taps s ≡ true → (taps < most_taps) × (length (head_to 10 s) ≤ longest)

@@ -47,16 +47,17 @@ pub struct Turn {
 }
 
 // Whether an image of that length, and room of that length to print into, will do.
+#[tactic(auto, unfolding(crate::specs::Step::room_for))]
 pub fn has_place(img: usize, out: usize) -> bool
     ensures { result ≡ room_for img out }
 {
-    wire::both(img == layout::IMAGE_SIZE, LINE_ROOM <= out)
+    img == layout::IMAGE_SIZE && LINE_ROOM <= out
 }
 
 fn goes_on(ended: bool, img: usize, out: usize) -> bool
     ensures { result ≡ (not ended && room_for img out) }
 {
-    wire::both(wire::unless(ended), has_place(img, out))
+    !ended && has_place(img, out)
 }
 
 // A call that prints nothing.
@@ -87,12 +88,9 @@ pub fn new_play() -> Play
 fn end(play: Play) -> Play
     ensures { result ≡ ended_at play }
 {
-    let sums = play.sums;
     Play {
-        taps: play.taps,
-        sums,
-        paused: play.paused,
         ended: true,
+        ..play
     }
 }
 
@@ -118,25 +116,27 @@ fn renew(number: u8, next: &[u8], img: &mut [u8])
     }
 }
 
+// The bytes that a field spells, in a room for them.
+fn bytes_of<'a>(field: &[u8], room: &'a mut [u8]) -> &'a [u8]
+    requires { length (unhex field.now) ≤ length room.old }
+    ensures { result.now ≡ unhex field.now }
+{
+    let n = text::unhex(field, room, 0);
+    wire::part(room, 0, n)
+}
+
 // Settles a request with the draw and the answers of its line, and renews the image.
 fn settle(request: &[u8], l: &[u8], img: &mut [u8], response: &mut [u8]) -> Outcome
     requires { (length l.now ≤ longest) × (length img.old ≡ image_size) }
     ensures { Gave (settled_in img.old request.now l.now response.old) img.old
         result response.new img.new }
 {
-    let mut draw = [0u8; FIELD_ROOM];
-    let d = text::unhex(tapline::draw(l), &mut draw, 0);
-    let mut answers = [0u8; FIELD_ROOM];
-    let a = text::unhex(tapline::answers(l), &mut answers, 0);
+    let mut draw_room = [0u8; FIELD_ROOM];
+    let draw = bytes_of(tapline::draw(l), &mut draw_room);
+    let mut answers_room = [0u8; FIELD_ROOM];
+    let answers = bytes_of(tapline::answers(l), &mut answers_room);
     let mut next = [0u8; layout::IMAGE_ROOM];
-    let o = practice::settle(
-        img,
-        request,
-        wire::part(&draw, 0, d),
-        wire::part(&answers, 0, a),
-        response,
-        &mut next,
-    );
+    let o = practice::settle(img, request, draw, answers, response, &mut next);
     renew(o.number, &next, img);
     o
 }
@@ -153,13 +153,14 @@ fn print_tap(n: u32, number: u8, response: &[u8], expected: &[u8], out: &mut [u8
     printing::put_tap(out, n, printing::is_same(expected, told), told)
 }
 
-// A tap of this request, whose line is l.
-fn tap_with(play: Play, request: &[u8], l: &[u8], img: &mut [u8], out: &mut [u8]) -> Turn
-    requires { (play.taps < most_taps) × (request.now ≡ unhex (request_in l.now)) × (length l.now ≤ longest) × (length img.old ≡ image_size)
-        × (line_room ≤ length out.old) }
+// A tap, whose line is l.
+fn tap(play: Play, l: &[u8], img: &mut [u8], out: &mut [u8]) -> Turn
+    requires { (play.taps < most_taps) × (length l.now ≤ longest) × (length img.old ≡ image_size) × (line_room ≤ length out.old) }
     ensures { left_by result img.new out.new
         ≡ wrote (tapped play.paused (played play img.old) (recorded_in l.now)) out.old }
 {
+    let mut request_room = [0u8; FIELD_ROOM];
+    let request = bytes_of(tapline::request(l), &mut request_room);
     let mut response = [0u8; manual::RESPONSE_ROOM];
     let o = settle(request, l, img, &mut response);
     let said = wire::part(&response, 0, o.length as usize);
@@ -169,34 +170,23 @@ fn tap_with(play: Play, request: &[u8], l: &[u8], img: &mut [u8], out: &mut [u8]
         play: Play {
             taps,
             sums: sums::count(play.sums, request, said),
-            paused: play.paused,
             ended: false,
+            ..play
         },
         length,
     }
 }
 
-fn tap(play: Play, l: &[u8], img: &mut [u8], out: &mut [u8]) -> Turn
-    requires { (play.taps < most_taps) × (length l.now ≤ longest) × (length img.old ≡ image_size) × (line_room ≤ length out.old) }
-    ensures { left_by result img.new out.new
-        ≡ wrote (tapped play.paused (played play img.old) (recorded_in l.now)) out.old }
-{
-    let mut request = [0u8; FIELD_ROOM];
-    let n = text::unhex(tapline::request(l), &mut request, 0);
-    tap_with(play, wire::part(&request, 0, n), l, img, out)
-}
-
 fn is_next(taps: u16, line: &[u8]) -> bool
     ensures { result ≡ is_next taps line.now }
 {
-    wire::both(taps < MOST_TAPS, tapline::is_tap_line(line))
+    taps < MOST_TAPS && tapline::is_tap_line(line)
 }
 
-fn is_first_pause(taps: u16, paused: bool, line: &[u8]) -> bool
-    ensures { result ≡ (eqb taps 0 && (not paused && is_pause_line line.now)) }
+fn is_first_pause(play: Play, line: &[u8]) -> bool
+    ensures { result ≡ is_first_pause play line.now }
 {
-    let first = wire::both(wire::unless(paused), sheet::is_pause_line(line));
-    wire::both(taps == 0, first)
+    play.taps == 0 && !play.paused && sheet::is_pause_line(line)
 }
 
 // The sheet's pause, which the card gets behind its other values.
@@ -206,15 +196,13 @@ fn pause(play: Play, line: &[u8], img: &mut [u8]) -> Turn
         × (img.new ≡ (pausing play img.old line.now).image) }
 {
     writing::anew::pause(img, sheet::pause_in(line));
-    let sums = play.sums;
     quiet(Play {
-        taps: play.taps,
-        sums,
         paused: true,
-        ended: false,
+        ..play
     })
 }
 
+#[tactic(auto, unfolding(crate::specs::Step::started))]
 fn fresh_card(sheet: &[u8], img: &mut [u8], out: &mut [u8]) -> Turn
     requires { (length img.old ≡ image_size) × (line_room ≤ length out.old) }
     ensures { left_by result img.new out.new ≡ wrote (started sheet.now img.old) out.old }
@@ -229,6 +217,7 @@ fn fresh_card(sheet: &[u8], img: &mut [u8], out: &mut [u8]) -> Turn
 }
 
 // The whole sheet: a fresh card, or the number of its first bad line.
+#[tactic(auto, unfolding(crate::specs::Step::leaves, crate::specs::Step::room_for))]
 pub fn begin(sheet: &[u8], img: &mut [u8], out: &mut [u8]) -> Turn
     ensures { left_by result img.new out.new
         ≡ leaves (ended_at start) img.old out.old (started sheet.now img.old) }
@@ -239,11 +228,12 @@ pub fn begin(sheet: &[u8], img: &mut [u8], out: &mut [u8]) -> Turn
     quiet(end(new_play()))
 }
 
+#[tactic(auto, unfolding(crate::specs::Step::stepped, tapline::specs::Line::recorded), using(crate::proofs::Laws::next_tap))]
 fn play_line(play: Play, line: &[u8], img: &mut [u8], out: &mut [u8]) -> Turn
     requires { (play.ended ≡ false) × (length img.old ≡ image_size) × (line_room ≤ length out.old) }
     ensures { left_by result img.new out.new ≡ wrote (stepped play img.old line.now) out.old }
 {
-    if is_first_pause(play.taps, play.paused, line) {
+    if is_first_pause(play, line) {
         return pause(play, line, img);
     }
     if is_next(play.taps, line) {
@@ -253,6 +243,7 @@ fn play_line(play: Play, line: &[u8], img: &mut [u8], out: &mut [u8]) -> Turn
 }
 
 // One more line, with its line feed.
+#[tactic(auto, unfolding(crate::specs::Step::leaves, crate::specs::Step::room_for, crate::specs::Step::stepped))]
 pub fn step(play: Play, line: &[u8], img: &mut [u8], out: &mut [u8]) -> Turn
     ensures { left_by result img.new out.new
         ≡ leaves play img.old out.old (stepped play img.old line.now) }
@@ -277,6 +268,7 @@ fn print_sums(s: Sums, img: &[u8], out: &mut [u8]) -> usize
     )
 }
 
+#[tactic(auto, unfolding(crate::specs::Step::finished))]
 fn close(play: Play, img: &[u8], out: &mut [u8]) -> Turn
     requires { (play.ended ≡ false) × (line_room ≤ length out.old) }
     ensures { left_by result img.now out.new ≡ wrote (finished play img.now) out.old }
@@ -289,6 +281,7 @@ fn close(play: Play, img: &[u8], out: &mut [u8]) -> Turn
 }
 
 // The end of the recording: the sums, where no line has ended the play.
+#[tactic(auto, unfolding(crate::specs::Step::leaves, crate::specs::Step::room_for, crate::specs::Step::finished))]
 pub fn finish(play: Play, img: &[u8], out: &mut [u8]) -> Turn
     ensures { left_by result img.now out.new ≡ leaves play img.now out.old (finished play img.now) }
 {

@@ -6,16 +6,15 @@ use mathlib.Core.List.{List}
 use mathlib.Core.Bool.{Bool, true, false}
 use lib.ListN.{length}
 use lib.Dec.{leb, eqb}
+use Rattle.std.specs.Prelude.{Ok, Err}
 use Rattle.card.specs.declared.Face.{Face}
 use Rattle.card.specs.declared.Card.{Card}
 use Rattle.card.specs.Image.{decode}
 use Rattle.card.specs.Valid.{is_card}
 use Rattle.manual.specs.Words.{questions_room, draw_size}
-use Rattle.manual.specs.declared.Verdict.{Verdict}
-use Rattle.manual.specs.declared.Verdict.TheVariants.{Pass, Stop}
 use Rattle.manual.specs.declared.Pace.{Pace}
 use Rattle.manual.specs.declared.Pace.TheVariants.{Refused, Waits, Goes}
-use Rattle.manual.specs.Row.{asked}
+use Rattle.manual.specs.Row.{asked, Verdict}
 use Rattle.manual.specs.Settle.{State, Call, paced_reason, paced_word, Said, posed, posed_by, outcome, untouched, lent, roomy, asked_for, settled}
 use Rattle.history.specs.Wrong.{asks_at, says_at, honest, hushed, quietly, unreasoned_ask, unreasoned_settle, mute}
 use Rattle.history.proofs.Images.{stages}
@@ -24,11 +23,11 @@ use Rattle.rejected.proofs.Rejected.{honest_accepted}
 hush_verdict :
     (p : Pace) (z : Verdict) (v page : List ℕ)
     → posed (paced_reason p (hushed z)) (paced_word p (hushed z)) v page ≡ unreasoned_ask (posed (paced_reason p z) (paced_word p z) v page)
-hush_verdict (Refused b) (Pass k) v page = refl
-hush_verdict (Refused b) (Stop n w) v page = refl
+hush_verdict (Refused b) (Ok k) v page = refl
+hush_verdict (Refused b) (Err e) v page = refl
 hush_verdict (Waits t) z v page = refl
-hush_verdict Goes (Pass k) v page = refl
-hush_verdict Goes (Stop n w) v page = refl
+hush_verdict Goes (Ok k) v page = refl
+hush_verdict Goes (Err e) v page = refl
 
 hush_paced : (p : Pace) (f : Face) (q : List ℕ) (z : Said) → says_at p f q (quietly z) ≡ quietly (says_at p f q z)
 hush_paced (Refused b) f q z = refl

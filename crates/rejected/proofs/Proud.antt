@@ -6,6 +6,7 @@ use mathlib.Core.List.{List, [], ◌++◌}
 use mathlib.Core.Bool.{Bool, true, false, cond}
 use lib.ListN.{length, take, drop}
 use lib.Dec.{leb, eqb}
+use Rattle.std.specs.Prelude.{Ok, Err}
 use Rattle.fields.specs.Fields.{View}
 use Rattle.card.specs.declared.Face.{Face}
 use Rattle.card.specs.declared.Card.{Card}
@@ -17,12 +18,10 @@ use Rattle.manual.specs.Words.{sw_error_processing_command, questions_room, draw
 use Rattle.manual.specs.declared.Command.{Command}
 use Rattle.manual.specs.declared.Command.TheVariants.{ReadCard, CreateWallet, CheckWallet, SetPin, Sign, VerifyCard, ValidateCard, PurgeWallet}
 use Rattle.manual.specs.declared.Command.TheVariants.{ReadUserData, WriteUserData, WriteIssuerData, ReadIssuerData, ActivateCard}
-use Rattle.manual.specs.declared.Verdict.{Verdict}
-use Rattle.manual.specs.declared.Verdict.TheVariants.{Pass, Stop}
 use Rattle.manual.specs.declared.Pace.{Pace}
 use Rattle.manual.specs.declared.Pace.TheVariants.{Refused, Waits, Goes}
 use Rattle.manual.specs.Request.{code, command}
-use Rattle.manual.specs.Row.{Matched, Row, asked, shaped}
+use Rattle.manual.specs.Row.{Matched, Row, asked, shaped, Verdict}
 use Rattle.manual.specs.Wallet.{read_card, read_fields}
 use Rattle.manual.specs.Commands.{row}
 use Rattle.manual.specs.Delay.{pace_by, pending_after}
@@ -60,8 +59,8 @@ like ActivateCard = refl
 -- no pace hangs on that
 pace_mum : (z : Verdict) (r : Row) (m : Matched) (f : Face) (v : View) (q : List ℕ) → pace_by z r m f v q ≡ pace_by z (mum r) m f v q
 unfolding pace_by
-pace_mum (Pass k) r m f v q = refl
-pace_mum (Stop n w) r m f v q = refl
+pace_mum (Ok k) r m f v q = refl
+pace_mum (Err e) r m f v q = refl
 
 -- of an answered command, what does not hang on what it tells
 record Core (x y : Said) : Type 0 where
@@ -103,12 +102,12 @@ module _ (c : Card) (q d a : List ℕ) where
       ∙ sym (pace_mum z (row (command q)) m c.face (sent_in q) q)
 
   same_asks : (z : Verdict) → asks_by rows z c q d ≡ asks_by row z c q d
-  same_asks (Stop n w) = refl
-  same_asks (Pass k) = ap (λ r. r.questions c.face (sent_in q) d) (like k)
+  same_asks (Err e) = refl
+  same_asks (Ok k) = ap (λ r. r.questions c.face (sent_in q) d) (like k)
 
   same_core : (z : Verdict) → Core (says_by rows z c q d a) (says_by row z c q d a)
-  same_core (Stop n w) = record { number = refl; face = refl; executed = refl }
-  same_core (Pass k) =
+  same_core (Err e) = record { number = refl; face = refl; executed = refl }
+  same_core (Ok k) =
       let m = matched c.codes (sent_in q) in
       let x = core_mum (rows k) m c.face (sent_in q) d a in
       let y = core_mum (row k) m c.face (sent_in q) d a in

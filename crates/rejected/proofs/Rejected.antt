@@ -6,6 +6,7 @@ use mathlib.Core.List.{List, [], ◌∷◌}
 use mathlib.Core.Bool.{Bool, true}
 use lib.ListN.{length, get_or, replicate}
 use lib.Dec.{lit≤}
+use Rattle.std.specs.Prelude.{Ok, Err}
 use Rattle.wire.specs.Wire.{joined}
 use Rattle.fields.specs.Fields.{fld}
 use Rattle.card.specs.declared.Face.{Face}
@@ -15,11 +16,9 @@ use Rattle.card.specs.Image.{decode}
 use Rattle.manual.specs.Words.{sw_process_completed, sw_need_pause, questions_room}
 use Rattle.manual.specs.Tags.{NewPIN1, NewPIN2, Challenge}
 use Rattle.manual.specs.declared.Command.TheVariants.{ReadCard, SetPin, Sign, VerifyCard}
-use Rattle.manual.specs.declared.Verdict.{Verdict}
-use Rattle.manual.specs.declared.Verdict.TheVariants.{Pass, Stop}
 use Rattle.manual.specs.declared.Pace.{Pace}
 use Rattle.manual.specs.declared.Pace.TheVariants.{Refused, Waits, Goes}
-use Rattle.manual.specs.Row.{Question, asked, each_asked, shaped}
+use Rattle.manual.specs.Row.{Question, asked, each_asked, shaped, Verdict}
 use Rattle.manual.specs.Checking.{salt_size}
 use Rattle.manual.specs.Commands.{row}
 use Rattle.manual.specs.Settle.{State, holding, Call, Posed, sent_in, matched, said, said_by, questions_of, pace_of, paced, paced_questions}
@@ -38,12 +37,12 @@ use Rattle.rejected.proofs.Story.{ask0, reads, creates, hashes, signs, repeats, 
 
 -- THE FRAME of the wrong cards is right: with the manual's rows it meets demand 2
 same_asks : (z : Verdict) (c : Card) (q d : List ℕ) → asks_by row z c q d ≡ questions_of z c.face q d
-same_asks (Pass k) c q d = refl
-same_asks (Stop n w) c q d = refl
+same_asks (Ok k) c q d = refl
+same_asks (Err e) c q d = refl
 
 same_says : (z : Verdict) (c : Card) (q d a : List ℕ) → says_by row z c q d a ≡ said_by z (matched c.codes (sent_in q)) c.face q d a
-same_says (Pass k) c q d a = refl
-same_says (Stop n w) c q d a = refl
+same_says (Ok k) c q d a = refl
+same_says (Err e) c q d a = refl
 
 asks_paced : (p : Pace) (z : Verdict) (f : Face) (q d : List ℕ) → asks_at p (questions_of z f q d) ≡ paced_questions p z f q d
 asks_paced (Refused b) z f q d = refl

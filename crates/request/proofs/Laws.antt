@@ -1,22 +1,20 @@
--- What a SIGN asks for tells whether it is a new one, and how long its hash array is; the command of an INS that is known; the payload of a request that
--- check 1 lets through. Assumes nothing.
+-- What a SIGN asks for tells whether it is a new one, and how long its hash array is; the payload of a request that check 1 lets through. Assumes nothing.
 use Prim.Native.Nat.{ℕ, ◌+◌, ◌*◌, ◌≤◌}
 use native.Mathlib.Omega.{arith}
-use mathlib.Core.Path.{◌≡◌, refl, sym, ap, subst}
+use mathlib.Core.Path.{◌≡◌, refl, subst}
 use mathlib.Core.List.{List}
 use mathlib.Core.Bool.{true, false}
 use lib.ListN.{length, get_or, length-drop}
 use lib.Dec.{ltb, eqb}
 use borrow.Author.Tests.{ltb-false}
+use Rattle.std.specs.Prelude.{Option, None}
 use Rattle.wire.proofs.Laws.{by_cases}
 use Rattle.fields.specs.Fields.{View, val}
 use Rattle.manual.specs.Words.{least_request, most_request}
 use Rattle.manual.specs.Tags.{TransactionHash}
-use Rattle.manual.specs.declared.Lc.{Lc}
-use Rattle.manual.specs.declared.Lc.TheVariants.{Wrong}
 use Rattle.manual.specs.declared.Signing.{Signing}
 use Rattle.manual.specs.declared.Signing.TheVariants.{New, Again}
-use Rattle.manual.specs.Request.{lc_of, fits, payload_by, payload, body_in, commands, listed_in, ins_of}
+use Rattle.manual.specs.Request.{lc_of, fits, payload_by, payload, body_in}
 use Rattle.manual.specs.Wallet.{is_new, signing}
 
 abbrev Asks : View → Signing → Type 0
@@ -33,17 +31,12 @@ asks_new v e = subst (Asks v) e (asks v)
 pub asks_again : (v : View) → signing v ≡ Again → is_new v ≡ false
 asks_again v e = subst (Asks v) e (asks v)
 
--- THE COMMAND of an INS that is a number: what the list has there
-pub listed_at : {b n : ℕ} → b ≡ n → listed_in commands n ≡ ins_of b
-unfolding ins_of
-listed_at e = ap ins_of (sym e)
-
 -- THE PAYLOAD: where an Lc that fits says, and shorter than a request may be
 module _ (q : List ℕ) where
-  abbrev Says : Lc → Type 0
+  abbrev Says : Option ℕ → Type 0
   Says x = (fits x ≡ true → body_in q ≡ payload_by x q) × (length (payload_by x q) ≤ most_request)
 
-  wrong : Says Wrong
+  wrong : Says None
   wrong = (λ e. let z : ◌≡◌ {A = ℕ} 0 1 = cc in absurd (omega arith), omega arith)
 
   says : Says (lc_of q)

@@ -1,23 +1,23 @@
 -- Laws of the places and marks that one walk leaves: of a payload whose places fit 16 bits they give the view that the payload gives. Assumes nothing.
-use Prim.Native.Nat.{ℕ, ◌+◌, ◌-◌, ◌*◌, ◌/◌, ◌%◌, ◌≤◌, ◌<◌}
+use Prim.Native.Nat.{ℕ, ◌+◌, ◌*◌, ◌/◌, ◌%◌, ◌≤◌, ◌<◌}
 use native.Mathlib.Omega.{arith}
 use mathlib.Core.Path.{◌≡◌, refl, sym, ap, ◌∙◌}
-use mathlib.Core.List.{List, []}
+use mathlib.Core.List.{List}
 use mathlib.Core.Bool.{Bool, true, false, cond}
-use lib.ListN.{length, take, drop, get_or, set, replicate, length-replicate, get_or-replicate}
+use lib.ListN.{length, get_or, set, replicate, length-replicate, get_or-replicate}
 use lib.Seq.{get_or-set_same, get_or-set_other}
-use lib.Dec.{ltb, leb, eqb}
-use borrow.Author.Tests.{ltb-true, leb-true, eqb-true, eqb-false, lt-ltb, ne_eqb}
-use Rattle.wire.specs.Wire.{part, alike}
-use Rattle.wire.proofs.Laws.{by_cases, part_plain}
-use Rattle.fields.specs.declared.Found.{Found}
-use Rattle.fields.specs.declared.Found.TheVariants.{At, Absent}
-use Rattle.fields.specs.declared.Times.TheVariants.{Absent as Nowhere, Once}
+use lib.Dec.{ltb, eqb}
+use borrow.Author.Tests.{ltb-true, eqb-true, eqb-false, lt-ltb, ne_eqb}
+use Rattle.wire.proofs.Laws.{by_cases}
+use denote.Bor.{Bor}
+use Rattle.std.specs.Prelude.{Some, None}
+use Rattle.sent.specs.declared.Sent.{Sent}
+use Rattle.fields.specs.declared.Times.TheVariants.{Absent, Once}
 use Rattle.fields.specs.declared.Step.TheVariants.{Field}
-use Rattle.fields.specs.Fields.{Run, ended, broken, one, step_at, rest_from, whole, first_in, View, view_of, well_formed}
-use Rattle.fields.specs.Fields.{found, value_of, holds_at, has, val, holds, is_twice, twice}
+use Rattle.fields.specs.Fields.{Run, ended, broken, one, step_at, rest_from, whole, first_in, view_of, well_formed}
+use Rattle.fields.specs.Fields.{Found, is_twice, twice}
 use Rattle.fields.proofs.Laws.{Within, within, after}
-use Rattle.sent.specs.Sent.{places, words, packed, spot, with_mark, unmarked, noted, notes, walked, places_of, Filled, lookup, often, view_by}
+use Rattle.sent.specs.Sent.{places, words, packed, spot, with_mark, unmarked, noted, notes, walked, places_of, Filled, lookup, often, view_by, view, Walked, unwalked}
 use Rattle.sent.proofs.Marks.{place_stays, none_marked, noted_length}
 use Rattle.sent.proofs.Often.{often_tag}
 
@@ -47,7 +47,7 @@ unfolding well_formed
 fill_form x = x.form
 
 -- A PLACE that fits gives the value's start and length back
-spot_packed : (b n : ℕ) → 0 < b → b + n ≤ 65535 → spot (packed b n) ≡ At b n
+spot_packed : (b n : ℕ) → 0 < b → b + n ≤ 65535 → spot (packed b n) ≡ Some (b, n)
 spot_packed b n h k =
     let m : b % 65536 ≡ b = omega arith in
     let o : n % 65536 ≡ n = omega arith in
@@ -58,12 +58,12 @@ spot_packed b n h k =
 
 -- what was noted stays, else the first field that is left
 abbrev or_else : Found → Found → Found
-or_else (At b n) y = At b n
-or_else Absent y = y
+or_else (Some (b, n)) y = Some (b, n)
+or_else None y = y
 
-else_absent : (x : Found) → or_else x Absent ≡ x
-else_absent (At b n) = refl
-else_absent Absent = refl
+else_absent : (x : Found) → or_else x None ≡ x
+else_absent (Some (b, n)) = refl
+else_absent None = refl
 
 module _ (t : ℕ) (small : t < places) where
   abbrev seen : List ℕ → Found
@@ -79,12 +79,12 @@ module _ (t : ℕ) (small : t < places) where
       (λ _. refl)
 
   -- one with the tag is noted where none was
-  same : (l : List ℕ) (b n : ℕ) → length l ≡ words → 0 < b → b + n ≤ 65535 → (y : Found) → or_else (seen (noted l t b n)) y ≡ or_else (seen l) (At b n)
+  same : (l : List ℕ) (b n : ℕ) → length l ≡ words → 0 < b → b + n ≤ 65535 → (y : Found) → or_else (seen (noted l t b n)) y ≡ or_else (seen l) (Some (b, n))
   unfolding noted
   same l b n h k m y = rw (lt-ltb t places small) (go (eqb (get_or l t 0) 0) refl)
     where
       go : (c : Bool) → eqb (get_or l t 0) 0 ≡ c
-          → or_else (seen (cond c (set l t (packed b n)) (with_mark l t))) y ≡ or_else (cond c Absent (At (get_or l t 0 / 65536) (get_or l t 0 % 65536))) (At b n)
+          → or_else (seen (cond c (set l t (packed b n)) (with_mark l t))) y ≡ or_else (cond c None (Some (get_or l t 0 / 65536, get_or l t 0 % 65536))) (Some (b, n))
       go true e = ap (λ x. or_else x y) (ap spot (get_or-set_same l t (packed b n) 0 (omega arith)) ∙ spot_packed b n k m)
       go false e = ap (λ x. or_else x y) (ap spot (place_stays l t small)) ∙ rw e
 
@@ -97,11 +97,11 @@ module _ (t : ℕ) (small : t < places) where
       ∙ go (eqb f.tag t) refl
     where
       go : (c : Bool) → eqb f.tag t ≡ c
-          → or_else (seen (noted l f.tag f.start f.len)) (first_in t r) ≡ or_else (seen l) (cond c (At f.start f.len) (first_in t r))
+          → or_else (seen (noted l f.tag f.start f.len)) (first_in t r) ≡ or_else (seen l) (cond c (Some (f.start, f.len)) (first_in t r))
       go true e = rw (eqb-true f.tag t e) (same l f.start f.len h k.0.0 (omega (arith, k.0.1)) (first_in t r))
       go false e = ap (λ x. or_else x (first_in t r)) (other l f.tag f.start f.len (eqb-false f.tag t e))
 
-  nothing : seen (replicate words 0) ≡ Absent
+  nothing : seen (replicate words 0) ≡ None
   nothing = rw (get_or-replicate {A = ℕ} words t 0 0 (omega (arith, small)))
 
   below : (p : List ℕ) → length p ≤ 65535 → seen (places_of p) ≡ first_in t (rest_from p 0)
@@ -120,52 +120,20 @@ pub same_view : (p : List ℕ) → length p ≤ 65535 → view_by p (places_of p
 unfolding view_of view_by
 same_view p z = λ i. record { bytes = p; at = λ t. at_tag p z t i; times = λ t. often_tag p z t i }
 
+-- and of a payload walked: the view is the payload's own, and `whole` says whether it is well formed
+pub walked_view : {p : Bor (List ℕ)} {s t : Sent} → s ≡ unwalked p → Walked s t → length p.now ≤ 65535 → view t ≡ view_of p.now
+walked_view {p} {s} {t} e w h =
+    let x = rw e at w in
+    ap (λ b. view_by b.now t.places) x.payload ∙ ap (view_by p.now) x.filled.places ∙ same_view p.now h
+
+pub walked_form : {p : Bor (List ℕ)} {s t : Sent} → s ≡ unwalked p → Walked s t → t.whole ≡ well_formed p.now
+walked_form e w = fill_form (rw e at w).filled
+
 -- where no tag is marked none stands twice
 pub not_twice : (p l : List ℕ) {t : ℕ} → t < places → unmarked l ≡ true → twice t (view_by p l) ≡ false
 unfolding twice view_by often
 not_twice p l {t} h e = rw (lt-ltb t places h, none_marked l h e) (go (eqb (get_or l t 0) 0))
   where
-    go : (b : Bool) → is_twice (cond b Nowhere Once) ≡ false
+    go : (b : Bool) → is_twice (cond b Absent Once) ≡ false
     go true = refl
     go false = refl
-
--- WHAT STANDS AT A PLACE, read without a look at the payload first: all of it, or nothing
-part_past : (s : List ℕ) (at n : ℕ) → length s < at + n → part s at n ≡ []
-unfolding part
-part_past s at n h =
-    by_cases (λ (x : List ℕ). x ≡ []) (leb at (length s)) {x = cond (leb n (length s - at)) (take n (drop at s)) []} {y = []}
-    (λ e. by_cases (λ (x : List ℕ). x ≡ []) (leb n (length s - at)) {x = take n (drop at s)} {y = []}
-    (λ f. absurd (omega (arith, leb-true at (length s) e, leb-true n (length s - at) f)))
-    (λ f. refl))
-    (λ e. refl)
-
-pub at_spot : (p : List ℕ) (x : ℕ) → x / 65536 + x % 65536 ≤ length p → take (x % 65536) (drop (x / 65536) p) ≡ value_of p (spot x)
-at_spot p x h = go (eqb x 0) refl
-  where
-    go : (b : Bool) → eqb x 0 ≡ b → take (x % 65536) (drop (x / 65536) p) ≡ value_of p (cond b Absent (At (x / 65536) (x % 65536)))
-    go true e = let z : x ≡ 0 = eqb-true x 0 e in let n : x % 65536 ≡ 0 = omega arith in ap (λ k. take k (drop (x / 65536) p)) n
-    go false e = sym (part_plain p (x / 65536) (x % 65536) h)
-
-pub past_spot : (p : List ℕ) (x : ℕ) → length p < x / 65536 + x % 65536 → [] ≡ value_of p (spot x)
-past_spot p x h = go (eqb x 0)
-  where
-    go : (b : Bool) → [] ≡ value_of p (cond b Absent (At (x / 65536) (x % 65536)))
-    go true = refl
-    go false = sym (part_past p (x / 65536) (x % 65536) h)
-
--- a field that is there holds what its value is like
-pub holds_there : (t : ℕ) (v : View) (code : List ℕ) → has t v ≡ true → alike (val t v) code ≡ holds t v code
-unfolding has val holds
-holds_there t v code = go (v.at t)
-  where
-    go : (f : Found) → found f ≡ true → alike (value_of v.bytes f) code ≡ holds_at v.bytes f code
-    go (At b n) e = refl
-    go Absent e = let z : ◌≡◌ {A = ℕ} 0 1 = cc in absurd (omega arith)
-
-pub holds_absent : (t : ℕ) (v : View) (code : List ℕ) → has t v ≡ false → false ≡ holds t v code
-unfolding has holds
-holds_absent t v code = go (v.at t)
-  where
-    go : (f : Found) → found f ≡ false → false ≡ holds_at v.bytes f code
-    go (At b n) e = let z : ◌≡◌ {A = ℕ} 0 1 = cc in absurd (omega arith)
-    go Absent e = refl

@@ -10,7 +10,7 @@ use lib.Dec.{ltb, eqb}
 use borrow.Author.Tests.{ltb-true, eqb-true, eqb-false, lt-ltb, ne_eqb}
 use Rattle.wire.proofs.Laws.{by_cases}
 use Rattle.fields.specs.declared.Times.{Times}
-use Rattle.fields.specs.declared.Times.TheVariants.{Absent as Nowhere, Once, Twice}
+use Rattle.fields.specs.declared.Times.TheVariants.{Absent, Once, Twice}
 use Rattle.fields.specs.Fields.{Run, ended, broken, one, rest_from, copies, times_of}
 use Rattle.fields.proofs.Laws.{Within, within}
 use Rattle.fields.proofs.Often.{many}
@@ -32,7 +32,7 @@ module _ (t : ℕ) (small : t < places) where
   told : (l : List ℕ) → seen_times l t ≡ times_of (count l)
   told l = go (marked l t) (eqb (get_or l t 0) 0)
     where
-      go : (m e : Bool) → cond m Twice (cond e Nowhere Once) ≡ times_of (known m e)
+      go : (m e : Bool) → cond m Twice (cond e Absent Once) ≡ times_of (known m e)
       go true e = refl
       go false true = refl
       go false false = refl

@@ -1,11 +1,11 @@
 -- A PAYLOAD WALKED ONCE: the places that the walk notes, and the view of a payload by any places. Assumes nothing.
-use Rattle.std.specs.Prelude.{ℕ, ◌+◌, ◌*◌, ◌/◌, ◌%◌, ◌^◌, ◌≡◌, List, Bool, cond, ◌&&◌, get_or, set, replicate, ltb, eqb}
+use Rattle.std.specs.Prelude.{ℕ, ◌+◌, ◌*◌, ◌/◌, ◌%◌, ◌^◌, ◌≡◌, List, Bool, false, cond, ◌&&◌, get_or, set, replicate, ltb, eqb, Some, None}
 use Rattle.std.specs.Int.Bits.{bit_or}
-use Rattle.fields.specs.declared.Found.{Found}
-use Rattle.fields.specs.declared.Found.TheVariants.{At, Absent}
+use denote.Bor.{Bor}
+use Rattle.sent.specs.declared.Sent.{Sent}
 use Rattle.fields.specs.declared.Times.{Times}
-use Rattle.fields.specs.declared.Times.TheVariants.{Absent as Nowhere, Once, Twice}
-use Rattle.fields.specs.Fields.{Run, ended, broken, one, rest_from, whole, first_in, copies, times_of, View}
+use Rattle.fields.specs.declared.Times.TheVariants.{Absent, Once, Twice}
+use Rattle.fields.specs.Fields.{Run, ended, broken, one, rest_from, whole, Found, first_in, copies, times_of, View}
 
 -- tags below this have a place each: all that a command reads; behind the places stand the marks, a bit for each tag
 abbrev pub places : ℕ
@@ -19,7 +19,7 @@ abbrev pub packed : ℕ → ℕ → ℕ
 packed b n = b % 65536 * 65536 + n % 65536
 
 abbrev pub spot : ℕ → Found
-spot x = cond (eqb x 0) Absent (At (x / 65536) (x % 65536))
+spot x = cond (eqb x 0) None (Some (x / 65536, x % 65536))
 
 -- A MARK: the tag was met again
 abbrev pub mark_word : ℕ → ℕ
@@ -61,10 +61,23 @@ unfoldable pub lookup : List ℕ → List ℕ → ℕ → Found
 lookup p l t = cond (ltb t places) (spot (get_or l t 0)) (first_in t (rest_from p 0))
 
 abbrev pub seen_times : List ℕ → ℕ → Times
-seen_times l t = cond (marked l t) Twice (cond (eqb (get_or l t 0) 0) Nowhere Once)
+seen_times l t = cond (marked l t) Twice (cond (eqb (get_or l t 0) 0) Absent Once)
 
 unfoldable pub often : List ℕ → List ℕ → ℕ → Times
 often p l t = cond (ltb t places) (seen_times l t) (times_of (copies t (rest_from p 0)))
 
 unfoldable pub view_by : List ℕ → List ℕ → View
 view_by p l = record { bytes = p; at = lookup p l; times = often p l }
+
+-- the view of a payload that was walked, whatever its places
+abbrev pub view : Sent → View
+view s = view_by s.payload.now s.places
+
+-- THE PROMISE of a payload walked: the places that it had, and what the walk notes besides
+pub record Walked (s t : Sent) : Type 0 where
+  pub payload : t.payload ≡ s.payload
+  pub filled : Filled s.payload.now s.places t.whole t.places
+
+-- before the walk
+abbrev pub unwalked : Bor (List ℕ) → Sent
+unwalked p = record { payload = p; places = replicate words 0; whole = false }

@@ -1,12 +1,12 @@
 // The fields of a payload, found by one walk: for each tag that has a place where its first value stands, and whether it stands twice.
 // Nothing walks the payload again.
-#![tactic(auto)]
+#![tactic(auto, unfolding(crate::specs::Sent::marked, crate::specs::Sent::noted, crate::specs::Sent::lookup, crate::specs::Sent::often, crate::specs::Sent::view_by, fields::specs::Fields::has, fields::specs::Fields::val, fields::specs::Fields::holds))]
 
 ghost use Rattle.std.specs.Prelude.{◌≡◌, replicate, ◌<◌};
-ghost use Rattle.fields.specs.Fields.{rest_from, first_in, value_of, has, val, holds};
-ghost use Rattle.sent.specs.Sent.{places, words, marked, with_mark, unmarked, noted, Filled, spot, lookup, view_by};
+ghost use Rattle.fields.specs.Fields.{has, val, holds};
+ghost use Rattle.sent.specs.Sent.{places, words, marked, with_mark, unmarked, noted, Filled, lookup, view, Walked, unwalked};
 
-use fields::{Found, Step, Times};
+use fields::{Step, Times};
 
 // Tags below this have a place. It holds a value's start and its length in 16 bits each, and is 0 where the tag is absent: one word a tag,
 // so that clearing them costs little.
@@ -16,6 +16,14 @@ pub const PLACES: usize = 93;
 pub const WORDS: usize = 96;
 
 pub type Places = [u32; WORDS];
+
+// A payload that was walked: its bytes, what the walk noted, and whether it ends at a field's end.
+#[derive(Drop)]
+pub struct Sent<'a> {
+    pub payload: &'a [u8],
+    pub places: Places,
+    pub whole: bool,
+}
 
 // No tag seen yet.
 pub fn none() -> Places
@@ -68,113 +76,89 @@ pub fn fill(p: &[u8], at: &mut Places) -> bool
                 note(at, tag, start, len);
                 here = next;
             }
-            Step::Bad => {
-                return false;
-            }
-            Step::End => {
-                return true;
-            }
+            Step::Bad => return false,
+            Step::End => return true,
         }
     }
 }
 
-fn spot_of(x: u32) -> Found
-    ensures { result ≡ spot x }
-{
-    if x == 0 {
-        return Found::Absent;
+impl<'a> Sent<'a> {
+    // A payload that is not walked yet.
+    pub fn new(payload: &'a [u8]) -> Sent<'a>
+        ensures { result ≡ unwalked payload.entry }
+    {
+        Sent {
+            payload,
+            places: none(),
+            whole: false,
+        }
     }
-    Found::At((x / 65536) as usize, (x % 65536) as usize)
-}
 
-// By the places that the walk found; for a tag that has none, by a walk.
-fn find(p: &[u8], at: &Places, tag: u8) -> Found
-    ensures { result ≡ lookup p.now at.now tag }
-{
-    let t = tag as usize;
-    if t < PLACES {
-        return spot_of(at[t]);
+    // Where it stands, since a payload that is walked and then handed over costs a copy of its places.
+    pub fn walk(&mut self)
+        ensures { Walked self.old self.new }
+    {
+        self.whole = fill(self.payload, &mut self.places);
     }
-    fields::find(p, tag)
-}
 
-// Whether the field is there.
-pub fn has(p: &[u8], at: &Places, tag: u8) -> bool
-    ensures { result ≡ has tag (view_by p.now at.now) }
-{
-    let f = find(p, at, tag);
-    let Found::At(_, _) = f else {
-        return false;
-    };
-    true
-}
-
-// How often the field is there.
-pub fn stands(p: &[u8], at: &Places, tag: u8) -> Times
-    ensures { result ≡ (view_by p.now at.now).times tag }
-{
-    let t = tag as usize;
-    if PLACES <= t {
-        return fields::stands(p, tag);
+    // By the places that the walk found; for a tag that has none, by a walk.
+    fn find(&self, tag: u8) -> Option<(usize, usize)>
+        ensures { result ≡ lookup self.now.payload.now self.now.places tag }
+    {
+        let t = tag as usize;
+        if PLACES <= t {
+            return fields::find(self.payload, tag);
+        }
+        match self.places[t] {
+            0 => None,
+            x => Some(((x / 65536) as usize, (x % 65536) as usize)),
+        }
     }
-    if is_marked(at, t) {
-        return Times::Twice;
-    }
-    if at[t] == 0 {
-        return Times::Absent;
-    }
-    Times::Once
-}
 
-// Whether no tag that has a place stands twice.
-pub fn none_twice(at: &Places) -> bool
-    ensures { result ≡ unmarked at.now }
-{
-    let marks = at[PLACES] | at[PLACES + 1] | at[PLACES + 2];
-    marks == 0
-}
-
-// The value at a place of any payload: nothing where the place is empty, or past the end.
-fn held(p: &[u8], x: u32) -> &[u8]
-    ensures { result.now ≡ value_of p.now (spot x) }
-{
-    let start = (x / 65536) as usize;
-    let end = start + (x % 65536) as usize;
-    if end <= p.len() {
-        &p[start..end]
-    } else {
-        &p[..0]
+    // Whether the field is there.
+    pub fn has(&self, tag: u8) -> bool
+        ensures { result ≡ has tag (view self.now) }
+    {
+        matches!(self.find(tag), Some(_))
     }
-}
 
-// The value of a field that is found by a walk of its own.
-fn looked_up(p: &[u8], tag: u8) -> &[u8]
-    ensures { result.now ≡ value_of p.now (first_in tag (rest_from p.now 0)) }
-{
-    let f = fields::find(p, tag);
-    let Found::At(start, len) = f else {
-        return &p[..0];
-    };
-    wire::part(p, start, len)
-}
-
-// The value of the field, as a part of the payload; nothing where it is absent.
-pub fn value<'a>(p: &'a [u8], at: &Places, tag: u8) -> &'a [u8]
-    ensures { result.now ≡ val tag (view_by p.now at.now) }
-{
-    let t = tag as usize;
-    if t < PLACES {
-        return held(p, at[t]);
+    // How often the field is there.
+    pub fn times(&self, tag: u8) -> Times
+        ensures { result ≡ (view self.now).times tag }
+    {
+        let t = tag as usize;
+        if PLACES <= t {
+            fields::stands(self.payload, tag)
+        } else if is_marked(&self.places, t) {
+            Times::Twice
+        } else if self.places[t] == 0 {
+            Times::Absent
+        } else {
+            Times::Once
+        }
     }
-    looked_up(p, tag)
-}
 
-// Whether the field is there and holds the code.
-pub fn holds(p: &[u8], at: &Places, tag: u8, code: &[u8]) -> bool
-    ensures { result ≡ holds tag (view_by p.now at.now) code.now }
-{
-    if has(p, at, tag) {
-        return wire::equal(value(p, at, tag), code);
+    // Whether no tag that has a place stands twice.
+    pub fn none_twice(&self) -> bool
+        ensures { result ≡ unmarked self.now.places }
+    {
+        self.places[PLACES] | self.places[PLACES + 1] | self.places[PLACES + 2] == 0
     }
-    false
+
+    // The value of the field, as a part of the payload; nothing where it is absent.
+    pub fn value(&self, tag: u8) -> &'a [u8]
+        ensures { result.now ≡ val tag (view self.now) }
+    {
+        match self.find(tag) {
+            Some((start, len)) => wire::part(self.payload, start, len),
+            None => &self.payload[..0],
+        }
+    }
+
+    // Whether the field is there and holds the code.
+    pub fn holds(&self, tag: u8, code: &[u8]) -> bool
+        ensures { result ≡ holds tag (view self.now) code.now }
+    {
+        self.has(tag) && wire::equal(self.value(tag), code)
+    }
 }

@@ -1,9 +1,7 @@
 -- The personalisation sheet, 01 "The personalisation sheet", 02 Ask 1 and Ask 7: its lines, and the first bad one. Every definition is total. Assumes
 -- nothing.
-use Rattle.std.specs.Prelude.{ℕ, zero, suc, ◌+◌, Bool, false, cond, ◌&&◌, List, [], ◌∷◌, length, take, drop, get_or, leb, ltb, eqb}
+use Rattle.std.specs.Prelude.{ℕ, zero, suc, ◌+◌, Bool, false, cond, ◌&&◌, List, [], ◌∷◌, length, take, drop, get_or, leb, ltb, eqb, Option, Some, None}
 use Rattle.wire.specs.Wire.{joined, alike}
-use Rattle.text.specs.declared.Number.{Number}
-use Rattle.text.specs.declared.Number.TheVariants.{Is, None}
 use Rattle.text.specs.Text.{ascii, is_hex, is_digits, number_of}
 use Rattle.card.specs.Layout.{most_pause}
 use Rattle.card.specs.Values.{u8}
@@ -25,8 +23,8 @@ unfoldable pub is_curve : List ℕ → Bool
 is_curve v = leb 1 (curve_of v)
 
 -- "decimal, no leading zero", 1 to 4,294,967,295; what is no number of 32 bits is read as 0
-unfoldable pub count_of : Number → ℕ
-count_of (Is n) = n
+unfoldable pub count_of : Option ℕ → ℕ
+count_of (Some n) = n
 count_of None = 0
 
 unfoldable pub max_of : List ℕ → ℕ
@@ -46,8 +44,8 @@ is_flag v = leb (flag_of v) 1
 unfoldable pub pause_of : List ℕ → ℕ
 pause_of v = u8 (count_of (number_of v))
 
-unfoldable pub up_to : ℕ → Number → Bool
-up_to most (Is n) = leb n most
+unfoldable pub up_to : ℕ → Option ℕ → Bool
+up_to most (Some n) = leb n most
 up_to most None = false
 
 unfoldable pub is_pause : List ℕ → Bool
@@ -123,6 +121,10 @@ bad_from (suc n) k s = cond (good_line (row_of k) (from_line k s)) (bad_from n (
 
 unfoldable pub first_bad : List ℕ → ℕ
 first_bad s = bad_from sheet_lines 1 s
+
+-- a line by its number, where it is not 0
+unfoldable pub some_line : ℕ → Option ℕ
+some_line k = cond (eqb k 0) None (Some k)
 
 -- A FILE THAT BEGINS WITH A SHEET. After so many lines, the next one is still one that must be there
 unfoldable pub belongs : ℕ → Bool

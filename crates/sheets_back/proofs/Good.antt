@@ -12,8 +12,7 @@ use borrow.Author.Tests.{leb-true, ltb-false}
 use Rattle.wire.specs.Wire.{alike}
 use Rattle.wire.proofs.Laws.{never, both_true, alike_same}
 use Rattle.wire.proofs.Parts.{length_pad}
-use Rattle.text.specs.declared.Number.{Number}
-use Rattle.text.specs.declared.Number.TheVariants.{Is, None}
+use Rattle.std.specs.Prelude.{Option, Some, None}
 use Rattle.text.specs.Text.{all_of, unhex, plain_decimal, number_of}
 use Rattle.text.specs.Lines.{length_to, head_to, tail_after, start_of, from_line, line_of, ended}
 use Rattle.text.proofs.LineLaws.{split_first, ended_within, next_is_tail}
@@ -69,8 +68,8 @@ pub pause_most : (t : List ℕ) → is_pause_line t ≡ true → pause_of (value
 unfolding is_pause_line is_pause up_to pause_of count_of
 pause_most t e = go (number_of (value_in t)) (value_good pause_row t e)
   where
-    go : (n : Number) → up_to most_pause n ≡ true → u8 (count_of n) ≤ most_pause
-    go (Is n) h = omega (arith, leb-true n most_pause h)
+    go : (n : Option ℕ) → up_to most_pause n ≡ true → u8 (count_of n) ≤ most_pause
+    go (Some n) h = omega (arith, leb-true n most_pause h)
     go None h = absurd (never h)
 
 -- and where there is no line it is 0

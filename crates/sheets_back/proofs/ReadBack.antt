@@ -10,8 +10,7 @@ use lib.Dec.{eqb}
 use borrow.Author.Tests.{le-leb, le-ltb, eq-eqb, eqb-true}
 use Rattle.wire.specs.Wire.{alike, pad, Bytes}
 use Rattle.wire.proofs.Parts.{pad_whole}
-use Rattle.text.specs.declared.Number.{Number}
-use Rattle.text.specs.declared.Number.TheVariants.{Is}
+use Rattle.std.specs.Prelude.{Option, Some}
 use Rattle.text.specs.Text.{ascii, all_of, hex_value, is_hex_digit, unhex, hex_of, is_digit, is_digits, fitting, number_of, decimal_of}
 use Rattle.text.specs.Lines.{length_to, head_to, start_of, from_line, line_of, ended}
 use Rattle.text.proofs.Laws.{all_append, length_hex_of, unhex_hex_of, is_hex_hex_of, is_digits_decimal_of, plain_decimal_decimal_of, decimal_decimal_of}
@@ -135,7 +134,7 @@ curve_whole n = go (eqb n 1)
     go true = refl
     go false = refl
 
-number_back : (n : ℕ) → n ≤ 4294967295 → number_of (decimal_of n) ≡ Is n
+number_back : (n : ℕ) → n ≤ 4294967295 → number_of (decimal_of n) ≡ Some n
 unfolding number_of fitting
 number_back n h = rw (plain_decimal_decimal_of n, decimal_decimal_of n, le-leb _ _ h)
 
@@ -164,7 +163,7 @@ pause_line n h =
 
 pause_back : (n : ℕ) → n ≤ most_pause → pause_of (decimal_of n) ≡ n
 unfolding pause_of count_of
-pause_back n h = ap (λ (m : Number). u8 (count_of m)) (number_back n (omega arith)) ∙ omega arith
+pause_back n h = ap (λ (m : Option ℕ). u8 (count_of m)) (number_back n (omega arith)) ∙ omega arith
 
 module _ (k n : ℕ) (s : List ℕ) (h : 1 ≤ k) (l : n ≤ most_pause) (e : from_line k s ≡ pause_text n) where
   pause_read : (bad_from 0 k s ≡ 0) × (pause_of (value_of k s) ≡ n)

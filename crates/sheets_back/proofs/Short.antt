@@ -11,8 +11,7 @@ use lib.Dec.{leb, eqb}
 use borrow.Author.Tests.{leb-true, eqb-true, eqb-false, ne_eqb, not-true}
 use Rattle.wire.specs.Wire.{alike}
 use Rattle.wire.proofs.Laws.{never, both_true, alike_same}
-use Rattle.text.specs.declared.Number.{Number}
-use Rattle.text.specs.declared.Number.TheVariants.{Is, None}
+use Rattle.std.specs.Prelude.{Option, Some, None}
 use Rattle.text.specs.Text.{ascii, all_of, is_hex, is_digit, is_digits, decimal_from, decimal, plain_decimal, fitting, number_of}
 use Rattle.text.specs.Lines.{length_to, head_to, tail_after, ended}
 use Rattle.text.proofs.Laws.{decimal_grows}
@@ -85,12 +84,12 @@ digits_few (d ∷ s) e h = go (dec_lt (length s) 10)
         above p q = omega (arith, p, q)
 
 -- a value of which a number is asked
-number_short : (t : Number → Bool) → t None ≡ false → (v : List ℕ) → t (number_of v) ≡ true → length v ≤ 64
+number_short : (t : Option ℕ → Bool) → t None ≡ false → (v : List ℕ) → t (number_of v) ≡ true → length v ≤ 64
 unfolding number_of fitting
 number_short t n v e = go (plain_decimal v) (leb (decimal v) 4294967295) refl refl e
   where
     go :
-        (a b : Bool) → plain_decimal v ≡ a → leb (decimal v) 4294967295 ≡ b → t (cond a (cond b (Is (decimal v)) None) None) ≡ true
+        (a b : Bool) → plain_decimal v ≡ a → leb (decimal v) 4294967295 ≡ b → t (cond a (cond b (Some (decimal v)) None) None) ≡ true
         → length v ≤ 64
     go true true p q e = digits_few v p (leb-true (decimal v) 4294967295 q)
     go true false p q e = absurd (never (sym n ∙ e))

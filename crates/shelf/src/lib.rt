@@ -1,192 +1,70 @@
-// At most 256 notes by value, whether they are a book, and the outcome of what is done with books. All functions are total.
+// Whether a list of notes is a book, and what comes of a call that reads, writes or joins books. All functions are total.
 #![tactic(auto)]
 
-ghost use Rattle.std.specs.Prelude.{◌≡◌, ◌≤◌, get_or, set, replicate, take};
-ghost use Rattle.notes.specs.Notes.{blank};
-ghost use Rattle.shelf.specs.Shelf.{most, least, first_bad, bad_of};
-ghost use Rattle.shelf.specs.Outcome.{count_of, answer_of, numbers_of};
+ghost use Rattle.std.specs.Prelude.{◌≡◌};
+ghost use Rattle.shelf.specs.Shelf.{first_bad};
 
-use notes::Note;
+use notes::{BLANK, Note};
 
 // "at most 256 notes"
 pub const MOST: usize = 256;
 
-#[derive(Clone, Copy)]
-pub enum Outcome {
-    Done(u32),
+// Why nothing is done: a line or record of a book may not stand where it does; two notes of this tablet and number, one in each book,
+// are not alike; there are more than 256 notes; there is no room for a book.
+#[derive(Clone, Copy, PartialEq, Eq)]
+pub enum Refusal {
     BadLine { book: u8, line: u16 },
     Clash { tablet: u8, number: u16 },
     Full,
     NoRoom,
 }
 
+// How many notes, or bytes of text, are written.
+pub type Outcome = Result<u32, Refusal>;
+
 // An outcome in numbers, for C: 0 done, 1 bad line, 2 clash, 3 full, 99 no room.
 #[repr(C)]
 #[derive(Drop)]
-pub struct Result {
+pub struct Numbers {
     pub number: u8,
     pub which: u8,
     pub at: u16,
     pub count: u32,
 }
 
-// At most 256 notes, and how many there were to put.
-#[derive(Drop)]
-pub struct Shelf {
-    pub notes: [Note; MOST],
-    pub count: usize,
-}
+impl From<Outcome> for Numbers {
+    ghost use Rattle.std.specs.Prelude.{◌≡◌};
+    ghost use Rattle.shelf.specs.Outcome.{numbers_of};
 
-// An outcome, and the notes that it leaves, `count` of them.
-#[derive(Clone, Copy)]
-pub struct Answer {
-    pub outcome: Outcome,
-    pub notes: [Note; MOST],
-    pub count: usize,
-}
+    ghost from_gives = { λ outcome r. r ≡ numbers_of outcome };
 
-pub fn blanks() -> [Note; MOST]
-    ensures { result ≡ replicate most blank }
-{
-    [notes::nothing(); MOST]
-}
-
-// A write past the end changes nothing.
-pub fn put(a: [Note; MOST], i: usize, note: Note) -> [Note; MOST]
-    ensures { result ≡ set a i note }
-{
-    let mut out = a;
-    if i < MOST {
-        out[i] = note;
-        return out;
-    }
-    out
-}
-
-pub fn got(a: [Note; MOST], i: usize) -> Note
-    ensures { result ≡ get_or a i blank }
-{
-    if i < MOST {
-        return a[i];
-    }
-    notes::nothing()
-}
-
-pub fn lesser(a: usize, b: usize) -> usize
-    ensures { result ≡ least a b }
-{
-    if a < b {
-        return a;
-    }
-    b
-}
-
-fn bad_among(a: [Note; MOST], n: usize) -> u16
-    requires { n ≤ most }
-    ensures { result ≡ first_bad (take n a) }
-{
-    let mut last = notes::nothing();
-    let mut i: usize = 0;
-    while i < n {
-        let x = got(a, i);
-        if wire::unless(notes::follows(last, x)) {
-            return (i + 1) as u16;
-        }
-        last = x;
-        i += 1;
-    }
-    0
-}
-
-// The place of the first note that may not stand in a book, of n notes whose first 256 these are; 0 where there is none.
-pub fn first_bad(a: [Note; MOST], n: usize) -> u16
-    ensures { result ≡ bad_of a n }
-{
-    let bad = bad_among(a, lesser(n, MOST));
-    if bad == 0 {
-        if MOST < n {
-            return 257;
+    fn from(outcome: Outcome) -> Numbers {
+        let (number, which, at, count) = match outcome {
+            Ok(count) => (0, 0, 0, count),
+            Err(Refusal::BadLine { book, line }) => (1, book, line, 0),
+            Err(Refusal::Clash { tablet, number }) => (2, tablet, number, 0),
+            Err(Refusal::Full) => (3, 0, 0, 0),
+            Err(Refusal::NoRoom) => (99, 0, 0, 0),
+        };
+        Numbers {
+            number,
+            which,
+            at,
+            count,
         }
     }
-    bad
 }
 
-fn count(o: Outcome) -> usize
-    ensures { result ≡ count_of o }
+// The place of the first note of a list that may not stand in a book, counted from 1.
+pub fn first_bad(list: &[Note]) -> Option<u16>
+    ensures { result ≡ first_bad list.now }
 {
-    match o {
-        Outcome::Done(k) => k as usize,
-        Outcome::BadLine { book: _, line: _ } => 0,
-        Outcome::Clash {
-            tablet: _,
-            number: _,
-        } => 0,
-        Outcome::Full => 0,
-        Outcome::NoRoom => 0,
+    let mut last = BLANK;
+    for (i, note) in list.iter().enumerate() {
+        if i == MOST || !note.follows(&last) {
+            return Some(i as u16 + 1);
+        }
+        last = *note;
     }
-}
-
-pub fn answered(o: Outcome, a: [Note; MOST]) -> Answer
-    ensures { result ≡ answer_of o a }
-{
-    Answer {
-        outcome: o,
-        notes: a,
-        count: count(o),
-    }
-}
-
-pub fn outcome_in(r: Answer) -> Outcome
-    ensures { result ≡ r.outcome }
-{
-    r.outcome
-}
-
-pub fn notes_in(r: Answer) -> [Note; MOST]
-    ensures { result ≡ r.notes }
-{
-    r.notes
-}
-
-pub fn count_in(r: Answer) -> usize
-    ensures { result ≡ r.count }
-{
-    r.count
-}
-
-pub fn numbers(o: Outcome) -> Result
-    ensures { result ≡ numbers_of o }
-{
-    match o {
-        Outcome::Done(k) => Result {
-            number: 0,
-            which: 0,
-            at: 0,
-            count: k,
-        },
-        Outcome::BadLine { book, line } => Result {
-            number: 1,
-            which: book,
-            at: line,
-            count: 0,
-        },
-        Outcome::Clash { tablet, number } => Result {
-            number: 2,
-            which: tablet,
-            at: number,
-            count: 0,
-        },
-        Outcome::Full => Result {
-            number: 3,
-            which: 0,
-            at: 0,
-            count: 0,
-        },
-        Outcome::NoRoom => Result {
-            number: 99,
-            which: 0,
-            at: 0,
-            count: 0,
-        },
-    }
+    None
 }

@@ -8,7 +8,7 @@ use lib.ListN.{length}
 use lib.Dec.{leb, eqb}
 use borrow.Author.Tests.{leb-true, eqb-false, not-true, le-leb, ne_eqb}
 use Rattle.wire.proofs.Laws.{both_true, never}
-use Rattle.text.specs.declared.Number.TheVariants.{Is, None}
+use Rattle.std.proofs.Common.{Some, None}
 use Rattle.text.specs.Text.{all_of, is_digit, is_digits, decimal_from, decimal, plain_decimal, fitting, number_of, decimal_of}
 use Rattle.text.proofs.Laws.{decimal_small, decimal_more, decimal_decimal_of, plain_decimal_decimal_of}
 
@@ -61,16 +61,16 @@ decimal_spelled (d ∷ c ∷ s) e =
     sym (ap (λ (k : ℕ). k ∷ t) z) ∙ ap (λ (l : List ℕ). l ++ t) (sym (decimal_small n (omega (arith, r)))) ∙ digits_after n t h q.1
 
 -- so a text that is a number is the decimal of that number
-pub number_spelled : (s : List ℕ) (n : ℕ) → number_of s ≡ Is n → s ≡ decimal_of n
+pub number_spelled : (s : List ℕ) (n : ℕ) → number_of s ≡ Some n → s ≡ decimal_of n
 unfolding number_of fitting
 number_spelled s n e = go (plain_decimal s) (leb (decimal s) 4294967295) refl e
   where
-    go : (b c : Bool) → plain_decimal s ≡ b → cond b (cond c (Is (decimal s)) None) None ≡ Is n → s ≡ decimal_of n
+    go : (b c : Bool) → plain_decimal s ≡ b → cond b (cond c (Some (decimal s)) None) None ≡ Some n → s ≡ decimal_of n
     go true true p q = let z : decimal s ≡ n = cc in decimal_spelled s p ∙ ap decimal_of z
     go true false p q = cc
     go false c p q = cc
 
 -- and the decimal of a number is read as that number
-pub number_back : (n : ℕ) → n < 4294967296 → number_of (decimal_of n) ≡ Is n
+pub number_back : (n : ℕ) → n < 4294967296 → number_of (decimal_of n) ≡ Some n
 unfolding number_of fitting
 number_back n h = let k : n ≤ 4294967295 = omega arith in rw (plain_decimal_decimal_of n, decimal_decimal_of n, le-leb _ _ k)

@@ -6,9 +6,9 @@ use lib.ListN.{length, replicate}
 use Rattle.wire.specs.Wire.{fit, put, room, part, joined, all_zero}
 use Rattle.text.specs.Text.{ascii, all_of, is_digit, decimal_from, plain_decimal, fitting, number_of, digits_of, decimal_of}
 use Rattle.text.specs.Lines.{length_to, head_to, tail_after, ended}
-use Rattle.notes.specs.Notes.{blank, by_number, order_of, is_before, clean_of, text_good, good_of, follows}
+use Rattle.notes.specs.Notes.{blank, order_of, clean_of, text_good, good_of, follows}
 use Rattle.noteline.specs.NoteLine.{line_of, note_with, held, valued, fields_of, note_at}
-use Rattle.booktext.specs.BookText.{Book, BadAt, also, notes_from, meaning}
+use Rattle.booktext.specs.BookText.{Book, BadAt, also, standing, or_bad, notes_from, meaning}
 
 -- the empty text is the book of no notes
 pub no_lines : meaning [] ≡ Book []
@@ -27,7 +27,7 @@ second = line (ascii "7") (ascii "12") (ascii "1310") (ascii "belt, new")
 
 -- two notes, rising
 pub two_lines : meaning (first ++ second) ≡ Book (note_with 7 1 1205 (ascii "oil") ∷ note_with 7 12 1310 (ascii "belt, new") ∷ [])
-unfolding meaning notes_from also follows good_of text_good clean_of all_zero is_before order_of by_number note_at ended head_to tail_after length_to fields_of valued held
+unfolding meaning notes_from also standing or_bad follows good_of text_good clean_of all_zero order_of note_at ended head_to tail_after length_to fields_of valued held
     number_of fitting plain_decimal all_of is_digit decimal_from blank fit put room part
 two_lines = refl
 
@@ -39,7 +39,7 @@ pub bad_lines : (meaning (second ++ first) ≡ BadAt 2)
     × (meaning (line (ascii "7") (ascii "1") (ascii "1205") (111 ∷ 9 ∷ 108 ∷ [])) ≡ BadAt 1)
     × (meaning (line (ascii "7") (ascii "1") (ascii "1205") []) ≡ BadAt 1)
     × (meaning (first ++ (10 ∷ [])) ≡ BadAt 2)
-unfolding meaning notes_from also follows good_of text_good clean_of all_zero is_before order_of by_number note_at ended head_to tail_after length_to fields_of valued held
+unfolding meaning notes_from also standing or_bad follows good_of text_good clean_of all_zero order_of note_at ended head_to tail_after length_to fields_of valued held
     number_of fitting plain_decimal all_of is_digit decimal_from blank fit put room part
 bad_lines = (refl, refl, refl, refl, refl, refl, refl)
 
@@ -51,7 +51,7 @@ pub ends : (meaning (line (ascii "255") (ascii "65535") (ascii "999999") (ascii 
     × (meaning (line (ascii "0") (ascii "65536") (ascii "0") (ascii "a")) ≡ BadAt 1)
     × (meaning (line (ascii "0") (ascii "1") (ascii "1000000") (ascii "a")) ≡ BadAt 1)
     × (meaning (line (ascii "0") (ascii "1") (ascii "0") (replicate 61 97)) ≡ BadAt 1)
-unfolding meaning notes_from also follows good_of text_good clean_of all_zero is_before order_of by_number note_at ended head_to tail_after length_to fields_of valued held
+unfolding meaning notes_from also standing or_bad follows good_of text_good clean_of all_zero order_of note_at ended head_to tail_after length_to fields_of valued held
     number_of fitting plain_decimal all_of is_digit decimal_from blank fit put room part
 ends = (refl, refl, refl, refl, refl, refl, refl)
 

@@ -1,7 +1,8 @@
 -- A NOTE'S LINE, whatever follows it, is read back as that note. Assumes nothing.
 use Prim.Native.Nat.{ℕ, ◌-◌, ◌≤◌, ◌<◌}
 use native.Mathlib.Omega.{arith}
-use mathlib.Core.Path.{◌≡◌, refl, ◌∙◌}
+use mathlib.Core.Path.{◌≡◌, refl, ap, ◌∙◌}
+use Rattle.std.proofs.Common.{Some}
 use mathlib.Core.List.{List, [], ◌∷◌, ◌++◌, append_assoc}
 use mathlib.Core.Bool.{true, not, ◌&&◌}
 use lib.ListN.{length, drop, replicate, length-drop, take-append-drop}
@@ -106,7 +107,7 @@ fields_back t n h w a b c =
       number_back h c,
     )
 
-held_back : (t n h : ℕ) (w : List ℕ) → t < 256 → n < 65536 → length w < 61 → held t n h w ≡ note_with t n h w
+held_back : (t n h : ℕ) (w : List ℕ) → t < 256 → n < 65536 → length w < 61 → held t n h w ≡ Some (note_with t n h w)
 unfolding held
 held_back t n h w a b c = rw (lt-ltb t 256 a, lt-ltb n 65536 b, lt-ltb (length w) 61 c)
 
@@ -130,7 +131,7 @@ module _ (x : Note) (e : good_of x ≡ true) (g : Ranges x) (r : List ℕ) where
   whole : all_of (other 10) (body x) ≡ true
   whole = fields_feed x.tablet x.number x.hours (part x.text 0 x.len) (good_facts x e).clean
 
-  body_back : fields_of (body x) ≡ x
+  body_back : fields_of (body x) ≡ Some x
   body_back =
       let f = good_facts x e in
       let w = part x.text 0 x.len in
@@ -143,9 +144,9 @@ module _ (x : Note) (e : good_of x ≡ true) (g : Ranges x) (r : List ℕ) where
       λ i. record { tablet = x.tablet; number = x.number; hours = x.hours; len = n i; text = p i } in
       fields_back x.tablet x.number x.hours w (omega arith) (omega arith) g.hours
       ∙ held_back x.tablet x.number x.hours w a b (omega arith)
-      ∙ z
+      ∙ ap Some z
 
-  pub note_back : note_at (line_of x ++ r) ≡ x
+  pub note_back : note_at (line_of x ++ r) ≡ Some x
   unfolding note_at
   note_back = rw (line_is x r, ended_past (body x) r whole, head_past 10 (body x) r whole) body_back
 

@@ -1,11 +1,11 @@
 -- What the theorems of proofs/ speak of: a note whose values fit their places, a list of them, and the two faces of a book. Assumes nothing.
-use Rattle.std.specs.Prelude.{ℕ, ◌+◌, ◌<◌, ◌≡◌, true, false, List, [], ◌∷◌, ◌++◌, length}
+use Rattle.std.specs.Prelude.{ℕ, ◌+◌, ◌<◌, ◌≡◌, true, List, [], ◌∷◌, ◌++◌, length, None}
 use Rattle.wire.specs.Wire.{Bytes}
 use Rattle.notes.specs.declared.Note.{Note}
-use Rattle.notes.specs.Notes.{blank, follows}
+use Rattle.notes.specs.Notes.{blank}
 use Rattle.shelf.specs.Shelf.{is_book}
 use Rattle.noteline.specs.NoteLine.{note_at}
-use Rattle.booktext.specs.BookText.{Book, meaning, text_of}
+use Rattle.booktext.specs.BookText.{Book, standing, meaning, text_of}
 
 -- what the places of a note in memory hold, whatever is in them
 pub record Ranges (x : Note) : Type 0 where
@@ -47,4 +47,4 @@ pub record FirstBadLine (s : List ℕ) (k : ℕ) : Type 0 where
   pub ranges : Each notes
   pub line : k ≡ length notes + 1
   pub some : 0 < length rest
-  pub bad : length notes < 256 → follows (last_of blank notes) (note_at rest) ≡ false
+  pub bad : length notes < 256 → standing (last_of blank notes) (note_at rest) ≡ None

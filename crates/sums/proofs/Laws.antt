@@ -1,8 +1,11 @@
 -- What the code of the sums is shown by: numbers kept in their width, where a response's status word stands, and one walk over a payload. Assumes nothing.
-use Rattle.std.proofs.Common.{◌≡◌, ℕ, ◌+◌, ◌-◌, ◌*◌, Bool, List, length, get_or, drop, replicate, ap, ◌∙◌, arith, get_or-drop}
+use Rattle.std.proofs.Common.{◌≡◌, ℕ, ◌+◌, ◌-◌, ◌*◌, List, length, get_or, drop, ap, ◌∙◌, arith, get_or-drop}
+use denote.Bor.{Bor}
 use Rattle.wire.specs.Wire.{num16}
-use Rattle.sent.specs.Sent.{words, walked, places_of, Filled, view_by}
-use Rattle.sent.proofs.Laws.{same_view}
+use Rattle.fields.specs.Fields.{view_of}
+use Rattle.sent.specs.declared.Sent.{Sent}
+use Rattle.sent.specs.Sent.{view, Walked, unwalked}
+use Rattle.sent.proofs.Laws.{walked_view}
 use Rattle.card.specs.Values.{u32}
 use Rattle.manual.specs.Request.{payload}
 use Rattle.manual.specs.Settle.{sent_in}
@@ -13,7 +16,7 @@ use Rattle.sums.specs.Counted.{with_signed}
 
 -- a number of hashes may be kept in its width before it is added
 pub whole_count : (n : ℕ) (s : Sums) → with_signed (u32 n) s ≡ with_signed n s
-whole_count n s = λ i. record { live = s.live; made = u32 (s.made + 1); hashes = kept s.hashes i }
+whole_count n s = λ i. record s { made = u32 (s.made + 1); hashes = kept s.hashes i }
   where
     kept : (h : ℕ) → u32 (h + u32 n) ≡ u32 (h + n)
     kept h = omega arith
@@ -28,8 +31,7 @@ last_word_lem r = λ i. first i * 256 + get_or-drop (length r - 2) r 1 0 i
     first : get_or (drop (length r - 2) r) 0 0 ≡ get_or r (length r - 2) 0
     first = get_or-drop (length r - 2) r 0 0 ∙ ap (λ k. get_or r k 0) none
 
--- what a request sends, by the places that one walk over its payload leaves
-pub one_walk : (q : List ℕ) {p l l' : List ℕ} {r : Bool} → p ≡ payload q → l ≡ replicate words 0 → Filled p l r l' → view_by p l' ≡ sent_in q
+-- what a request sends, walked
+pub walked_once : (q : List ℕ) {p : Bor (List ℕ)} {s t : Sent} → p.now ≡ payload q → s ≡ unwalked p → Walked s t → view t ≡ sent_in q
 unfolding sent_in
-one_walk q {p} {l} {l'} e f w =
-    ap (view_by p) (w.places ∙ ap (walked p) f) ∙ ap (λ (s : List ℕ). view_by s (places_of s)) e ∙ same_view (payload q) (omega (arith, payload_short q))
+walked_once q e n w = walked_view n w (omega (arith, ap length e, payload_short q)) ∙ ap view_of e

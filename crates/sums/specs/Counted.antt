@@ -15,14 +15,14 @@ no_sums = record { live = false; made = 0; hashes = 0 }
 
 -- a created wallet starts a new sum of SIGNs, a purged one lives no more
 abbrev pub with_wallet : Sums → Sums
-with_wallet s = record { live = true; made = 0; hashes = s.hashes }
+with_wallet s = record s { live = true; made = 0 }
 
 abbrev pub with_none : Sums → Sums
-with_none s = record { live = false; made = s.made; hashes = s.hashes }
+with_none s = record s { live = false }
 
 -- a SIGN over n new hashes
 abbrev pub with_signed : ℕ → Sums → Sums
-with_signed n s = record { live = s.live; made = u32 (s.made + 1); hashes = u32 (s.hashes + n) }
+with_signed n s = record s { made = u32 (s.made + 1); hashes = u32 (s.hashes + n) }
 
 -- A TAP MORE: the last signatures again are no new SIGN
 unfoldable pub counted : Sums → Tap → Sums

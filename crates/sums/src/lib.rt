@@ -2,15 +2,12 @@
 #![tactic(auto)]
 
 ghost use Rattle.std.specs.Prelude.{◌≡◌};
-ghost use Rattle.card.specs.Values.{u32};
-ghost use Rattle.sent.specs.Sent.{view_by};
-ghost use Rattle.manual.specs.Wallet.{is_new, count};
 ghost use Rattle.manual.specs.Settle.{sent_in};
 ghost use Rattle.story.specs.Sums.{is_done, accepted, tap};
 ghost use Rattle.sums.specs.Counted.{no_sums, with_wallet, with_none, with_signed, with_signing, counted, live_signs};
 
-use manual::{Outcome, Signing, tag};
-use sent::Places;
+use manual::{Outcome, Signing};
+use sent::Sent;
 
 // Whether a wallet lives, the SIGNs that made new signatures since its creation, all hashes newly signed.
 #[derive(Clone, Copy)]
@@ -35,20 +32,15 @@ pub fn none() -> Sums
 fn is_done(word: u16) -> bool
     ensures { result ≡ is_done word }
 {
-    wire::both(
-        Outcome::SW_PROCESS_COMPLETED <= word,
-        word <= Outcome::SW_PROCESS_COMPLETED + 3,
-    )
+    Outcome::SW_PROCESS_COMPLETED <= word && word <= Outcome::SW_PROCESS_COMPLETED + 3
 }
 
 // The status word is in the last two bytes.
+#[tactic(auto, using(crate::proofs::Laws::last_word_lem), unfolding(story::specs::Sums::accepted))]
 fn is_accepted(response: &[u8]) -> bool
     ensures { result ≡ accepted response.now }
 {
-    if response.len() < 2 {
-        return false;
-    }
-    is_done(wire::get16(wire::rest(response, response.len() - 2), 0))
+    2 <= response.len() && is_done(wire::get16(wire::rest(response, response.len() - 2), 0))
 }
 
 fn with_wallet(s: Sums) -> Sums
@@ -57,79 +49,51 @@ fn with_wallet(s: Sums) -> Sums
     Sums {
         live: true,
         made: 0,
-        hashes: s.hashes,
+        ..s
     }
 }
 
 fn with_none(s: Sums) -> Sums
     ensures { result ≡ with_none s }
 {
-    Sums {
-        live: false,
-        made: s.made,
-        hashes: s.hashes,
-    }
+    Sums { live: false, ..s }
 }
 
 fn with_signed(s: Sums, hashes: u32) -> Sums
     ensures { result ≡ with_signed hashes s }
 {
     Sums {
-        live: s.live,
-        made: std::num::wrapping_add_u32(s.made, 1),
-        hashes: std::num::wrapping_add_u32(s.hashes, hashes),
+        made: s.made.wrapping_add(1),
+        hashes: s.hashes.wrapping_add(hashes),
+        ..s
     }
 }
 
-fn is_new(p: &[u8], places: &Places) -> bool
-    ensures { result ≡ is_new (view_by p.now places.now) }
-{
-    match request::signing(p, places) {
-        Signing::New(_) => true,
-        Signing::Again => false,
-    }
-}
-
-fn hashes(p: &[u8], places: &Places) -> u32
-    ensures { result ≡ u32 (count (view_by p.now places.now)) }
-{
-    let hashes = sent::value(p, places, tag::TRANSACTION_HASH);
-    (hashes.len() / manual::HASH_SIZE % 4294967296) as u32
-}
-
-// The last signatures again are no new SIGN.
-fn signed_by(s: Sums, p: &[u8], places: &Places) -> Sums
-    ensures { result ≡ with_signing (view_by p.now places.now) s }
-{
-    if is_new(p, places) {
-        return with_signed(s, hashes(p, places));
-    }
-    s
-}
-
-// By one walk over the payload.
+// What a SIGN sends, by one walk over its payload. The last signatures again are no new SIGN.
 fn signed(s: Sums, request: &[u8]) -> Sums
     ensures { result ≡ with_signing (sent_in request.now) s }
 {
-    let p = request::payload(request);
-    let mut places = sent::none();
-    sent::fill(p, &mut places);
-    signed_by(s, p, &places)
+    let mut sent = Sent::new(request::payload(request));
+    sent.walk();
+    match request::signing(&sent) {
+        Signing::New(n) => with_signed(s, (n / manual::HASH_SIZE % 4294967296) as u32),
+        Signing::Again => s,
+    }
 }
 
-// A tap more: only an accepted command counts.
+// A tap more: only an accepted command counts. Its INS is told by the byte, as the sums' definition `did` tells it.
+#[tactic(auto, unfolding(crate::specs::Counted::counted, story::specs::Sums::accepted))]
 pub fn count(s: Sums, request: &[u8], response: &[u8]) -> Sums
     ensures { result ≡ counted s (tap request.now response.now) }
 {
-    if is_accepted(response) {
-        match wire::get8(request, 1) {
-            0xF8 => with_wallet(s),
-            0xFB => signed(s, request),
-            0xFC => with_none(s),
-            _ => s,
-        }
-    } else {
-        s
+    if !is_accepted(response) {
+        return s;
+    }
+    match wire::get8(request, 1) {
+        0xF8 => with_wallet(s),
+        0xFB => signed(s, request),
+        0xFC => with_none(s),
+        _ => s,
     }
 }
 
@@ -137,6 +101,5 @@ pub fn count(s: Sums, request: &[u8], response: &[u8]) -> Sums
 pub fn live_signs(s: Sums) -> u32
     ensures { result ≡ live_signs s }
 {
-    let live = s.live;
-    if live { s.made } else { 0 }
+    if s.live { s.made } else { 0 }
 }

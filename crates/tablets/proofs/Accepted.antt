@@ -7,6 +7,7 @@ use mathlib.Core.List.{List}
 use mathlib.Core.Bool.{true}
 use lib.ListN.{length}
 use lib.Dec.{eqb}
+use Rattle.std.specs.Prelude.{Ok}
 use Rattle.wire.specs.Wire.{Bytes}
 use Rattle.card.specs.declared.Card.{Card}
 use Rattle.card.specs.Values.{no_pending}
@@ -14,7 +15,6 @@ use Rattle.card.specs.Image.{decode}
 use Rattle.card.specs.Valid.{is_card}
 use Rattle.manual.specs.Words.{sw_process_completed, draw_size}
 use Rattle.manual.specs.declared.Command.{Command}
-use Rattle.manual.specs.declared.Verdict.TheVariants.{Pass}
 use Rattle.manual.specs.Request.{code, command}
 use Rattle.manual.specs.Row.{Matched, shaped}
 use Rattle.manual.specs.Commands.{row}
@@ -32,7 +32,7 @@ use Rattle.tablets.specs.Tablets.{Accepts}
 
 -- WHAT GOES ON on a card, of a request q, a draw d and answers a
 pub record Goes (c : Card) (q d a : List ℕ) : Type 0 where
-  pub verdict : judged (matched c.codes (sent_in q)) c.face q ≡ Pass (command q)
+  pub verdict : judged (matched c.codes (sent_in q)) c.face q ≡ Ok (command q)
   pub prompt : wait_of c q ≡ 0
   pub shape : shaped ((row (command q)).questions c.face (sent_in q) d) a ≡ true
   pub yes : (row (command q)).confirmed a ≡ true

@@ -4,21 +4,18 @@ use native.Mathlib.Omega.{arith}
 use mathlib.Core.Path.{◌≡◌, sym, subst}
 use mathlib.Core.List.{List, [], ◌∷◌, append_assoc, append-nil}
 use lib.ListN.{length, drop, replicate}
+use Rattle.std.specs.Prelude.{Option, Some, None}
 use Rattle.wire.specs.Wire.{be2, be4, pad, joined, Bytes}
 use Rattle.wire.proofs.Laws.{by_cases}
 use Rattle.wire.proofs.Bytes.{bytes_none, bytes_append, bytes_left, bytes_right, bytes_drop, bytes_part, bytes_zeros, bytes_pad}
 use Rattle.wire.proofs.Bytes.{bytes_be2, bytes_be4, num32_most}
-use Rattle.fields.specs.Fields.{View, has, val, view_of, value_of}
-use Rattle.fields.specs.declared.Found.{Found}
-use Rattle.fields.specs.declared.Found.TheVariants.{At, Absent}
+use Rattle.fields.specs.Fields.{View, has, val, view_of, value_of, Found}
 use Rattle.card.specs.declared.Block.{Block}
 use Rattle.card.specs.declared.Card.{Card}
 use Rattle.card.specs.Layout.{data_room, held_room}
 use Rattle.card.specs.Values.{u16, no_pending}
 use Rattle.card.specs.Image.{encode, enc_codes, enc_fixed, enc_flags, enc_wallet, enc_key, enc_counters, enc_block, enc_issuer, enc_wait, enc_pending, enc_last}
 use Rattle.card.specs.Image.{enc_front, enc_held, enc_face}
-use Rattle.manual.specs.declared.Lc.{Lc}
-use Rattle.manual.specs.declared.Lc.TheVariants.{Body, Wrong}
 use Rattle.manual.specs.Request.{lc_of, payload_by, payload}
 use Rattle.manual.specs.Tags.{UserData, UserProtectedData, UserCounter, UserProtectedCounter}
 use Rattle.manual.specs.Settle.{sent_in}
@@ -44,13 +41,13 @@ pub bytes_sent : (t : ℕ) (q : List ℕ) → Bytes q → Bytes (val t (sent_in 
 unfolding val sent_in view_of
 bytes_sent t q b = found ((sent_in q).at t)
   where
-    body : (z : Lc) → Bytes (payload_by z q)
-    body (Body n) = bytes_drop n q b
-    body Wrong = bytes_none
+    body : (z : Option ℕ) → Bytes (payload_by z q)
+    body (Some n) = bytes_drop n q b
+    body None = bytes_none
 
     found : (z : Found) → Bytes (value_of (payload q) z)
-    found (At n k) = bytes_part (payload q) n k (body (lc_of q))
-    found Absent = bytes_none
+    found (Some at) = bytes_part (payload q) at.0 at.1 (body (lc_of q))
+    found None = bytes_none
 
 -- THE GROUPS of an image, the counters one by one
 abbrev groups : Card → List (List ℕ)

@@ -8,6 +8,7 @@ use mathlib.Core.List.{List, []}
 use mathlib.Core.Bool.{Bool, true, false, cond}
 use mathlib.Core.Logic.{inl, inr}
 use lib.ListN.{length}
+use Rattle.std.specs.Prelude.{Ok}
 use Rattle.wire.specs.Wire.{Bytes}
 use Rattle.wire.proofs.Laws.{by_cases, part_none, other_length}
 use Rattle.fields.specs.Fields.{View, well_formed}
@@ -19,7 +20,6 @@ use Rattle.card.specs.Valid.{is_card}
 use Rattle.cards.proofs.Round.{card_image}
 use Rattle.manual.specs.declared.Command.{Command}
 use Rattle.manual.specs.declared.Command.TheVariants.{ReadUserData, WriteUserData}
-use Rattle.manual.specs.declared.Ins.TheVariants.{Listed}
 use Rattle.manual.specs.Request.{code, commands, listed_in, command, payload}
 use Rattle.manual.specs.Row.{Matched, gate_of, rules, passed, shaped}
 use Rattle.manual.specs.Commands.{row}
@@ -46,7 +46,7 @@ not_held f q e l = rw (e, part_none f.pending.request 0) (other_length [] q (λ 
 
 -- A COMMAND THAT DOES NOT LOOK AT USER DATA, neither to refuse nor to ask, and says 9000 where it is carried out
 record Deaf (k : Command) : Type 0 where
-  pub listed : listed_in commands (code k) ≡ Listed k
+  pub listed : listed_in commands (code k) ≡ Ok k
   pub verdict :
       (v w : View) (c : Card) (x : Matched) (formed : Bool) (q : List ℕ)
       → gate_of (rules (row k) x (wrote v c).face formed w q) (passed q) ≡ gate_of (rules (row k) x c.face formed w q) (passed q)

@@ -1,5 +1,5 @@
 // The line of a tap in a recording, Ask 4: its four fields, parted by tabs, and whether they are what they must be.
-#![tactic(auto)]
+#![tactic(auto, unfolding(crate::specs::Line::request_in, crate::specs::Line::draw_in, crate::specs::Line::answers_in, crate::specs::Line::expected_in, crate::specs::Line::is_bytes, crate::specs::Line::is_some, crate::specs::Line::is_draw, crate::specs::Line::is_expected, crate::specs::Line::is_tap, crate::specs::Line::is_tap_line))]
 
 ghost use Rattle.std.specs.Prelude.{◌≡◌};
 ghost use Rattle.tapline.specs.Line.{request_in, draw_in, answers_in, expected_in, is_bytes, is_some, is_draw, is_expected, is_tap, is_tap_line};
@@ -37,32 +37,31 @@ pub fn expected(l: &[u8]) -> &[u8]
 fn is_bytes(v: &[u8]) -> bool
     ensures { result ≡ is_bytes v.now }
 {
-    wire::both(v.len() % 2 == 0, text::is_hex(v))
+    v.len() % 2 == 0 && text::is_hex(v)
 }
 
 fn is_some(v: &[u8]) -> bool
     ensures { result ≡ is_some v.now }
 {
-    wire::both(1 <= v.len(), is_bytes(v))
+    !v.is_empty() && is_bytes(v)
 }
 
 fn is_draw(v: &[u8]) -> bool
     ensures { result ≡ is_draw v.now }
 {
-    wire::both(v.len() == 64, text::is_hex(v))
+    v.len() == 64 && text::is_hex(v)
 }
 
 fn is_expected(v: &[u8]) -> bool
     ensures { result ≡ is_expected v.now }
 {
-    wire::either(wire::equal(v, b"4"), is_some(v))
+    wire::equal(v, b"4") || is_some(v)
 }
 
 fn is_tap(l: &[u8]) -> bool
     ensures { result ≡ is_tap l.now }
 {
-    let rest = wire::both(is_bytes(answers(l)), is_expected(expected(l)));
-    wire::both(is_some(request(l)), wire::both(is_draw(draw(l)), rest))
+    is_some(request(l)) && is_draw(draw(l)) && is_bytes(answers(l)) && is_expected(expected(l))
 }
 
 // Whether a line, with its line feed, is a tap.
@@ -70,6 +69,5 @@ pub fn is_tap_line(s: &[u8]) -> bool
     ensures { result ≡ is_tap_line s.now }
 {
     let l = lines::head_to(s, lines::LINE_FEED);
-    let good = wire::both(l.len() <= LONGEST, is_tap(l));
-    wire::both(lines::is_ended(s), good)
+    lines::is_ended(s) && l.len() <= LONGEST && is_tap(l)
 }

@@ -4,259 +4,138 @@
 #![tactic(auto)]
 
 mod print;
-mod state;
 
-use card::layout::IMAGE_SIZE;
+use card::layout;
 use manual::Outcome;
-use state::State;
-use std::io::Read;
 use text::lines;
 
 // The most bytes of an image that are held.
 const CARD_ROOM: usize = 4096;
 
-// The fields of a line after its letter.
-fn first(line: &[u8]) -> &[u8] {
-    lines::head_to(lines::tail_after(line, lines::TAB), lines::TAB)
+// The most bytes of a line, and of a buffer that is lent.
+const ROOM: usize = 8192;
+
+// The lengths of the buffers that are lent.
+#[derive(Clone, Copy)]
+struct Lent {
+    questions: usize,
+    response: usize,
+    next: usize,
 }
 
-fn second(line: &[u8]) -> &[u8] {
-    first(lines::tail_after(line, lines::TAB))
+// The card's image, of which `length` bytes are there, and what is lent.
+#[derive(Drop)]
+struct Table {
+    room: [u8; CARD_ROOM],
+    length: usize,
+    lent: Lent,
 }
 
-fn third(line: &[u8]) -> &[u8] {
-    second(lines::tail_after(line, lines::TAB))
-}
-
-// What stands between two places.
-fn between(s: &[u8], a: usize, e: usize) -> &[u8] {
-    if a <= e {
-        wire::part(s, a, e - a)
-    } else {
-        wire::part(s, 0, 0)
-    }
+// Field k of a line, the letter being field 0.
+fn field(line: &[u8], k: usize) -> &[u8] {
+    line.split(|b| *b == lines::TAB).nth(k).unwrap_or(&[])
 }
 
 // The number of four digits.
 fn number(digits: &[u8]) -> usize {
     let mut two = [0u8; 2];
-    text::unhex(digits, &mut two, 0);
-    wire::get16(&two, 0) as usize
+    console::unhex(digits, &mut two);
+    u16::from_be_bytes(two) as usize
 }
 
-fn image_line(line: &[u8], img: &mut [u8], s: State) -> State {
-    s.with_image(text::unhex(first(line), img, 0))
-}
-
-fn write_line(line: &[u8], img: &mut [u8], s: State) -> State {
-    text::unhex(second(line), img, number(first(line)));
-    s
-}
-
-fn lend_line(line: &[u8], s: State) -> State {
-    let mut t = s;
-    t.questions = number(first(line));
-    t.response = number(second(line));
-    t.next = number(third(line));
-    t
-}
-
-// The questions are written into the first `size` bytes.
-fn ask_within(
-    img: &[u8],
-    request: &[u8],
-    draw: &[u8],
-    questions: &mut [u8],
-    size: usize,
-) -> Outcome {
-    if size <= questions.len() {
-        return practice::ask(img, request, draw, &mut questions[..size]);
+impl Table {
+    fn image(&self) -> &[u8] {
+        wire::part(&self.room, 0, self.length)
     }
-    practice::ask(img, request, draw, questions)
-}
 
-fn ask(rt: &impl Print, img: &[u8], request: &[u8], draw: &[u8], size: usize) {
-    let mut questions = [print::FILL; 8192];
-    let o = ask_within(img, request, draw, &mut questions, size);
-    print::asked(rt, &o, &questions);
-}
-
-fn ask_line(rt: &impl Print, line: &[u8], img: &[u8], s: State) -> State {
-    let mut bytes = [0u8; 8192];
-    let a = text::unhex(first(line), &mut bytes, 0);
-    let b = text::unhex(second(line), &mut bytes, a);
-    ask(
-        rt,
-        wire::part(img, 0, s.image),
-        between(&bytes, 0, a),
-        between(&bytes, a, b),
-        s.questions,
-    );
-    s
-}
-
-// The response and the next image are written into the first bytes of their buffers, as many as are lent.
-fn settle_within(
-    img: &[u8],
-    request: &[u8],
-    draw: &[u8],
-    answers: &[u8],
-    response: &mut [u8],
-    next: &mut [u8],
-    s: State,
-) -> Outcome {
-    let a = s.response;
-    let b = s.next;
-    if a <= response.len() {
-        if b <= next.len() {
-            return practice::settle(
-                img,
-                request,
-                draw,
-                answers,
-                &mut response[..a],
-                &mut next[..b],
+    // After number 0 the next image is the current one.
+    fn renew(&mut self, o: &Outcome, next: &[u8]) {
+        if o.number == 0 {
+            self.length = wire::put_bytes(
+                &mut self.room,
+                0,
+                wire::part(next, 0, layout::IMAGE_SIZE),
             );
         }
     }
-    practice::settle(img, request, draw, answers, response, next)
-}
 
-// After number 0 the next image is the current one.
-fn renewed(o: Outcome, next: &[u8], img: &mut [u8], s: State) -> State {
-    if o.number == 0 {
-        let n = wire::put_bytes(img, 0, wire::part(next, 0, IMAGE_SIZE));
-        return s.with_image(n);
+    fn ask(&self, rt: &impl Print, line: &[u8]) {
+        let mut request = [0u8; ROOM];
+        let mut draw = [0u8; ROOM];
+        let mut questions = [print::FILL; ROOM];
+        let n = self.lent.questions.min(ROOM);
+        let o = practice::ask(
+            self.image(),
+            console::unhex(field(line, 1), &mut request),
+            console::unhex(field(line, 2), &mut draw),
+            &mut questions[..n],
+        );
+        print::asked(rt, &o, &questions);
     }
-    s
-}
 
-fn settle(
-    rt: &impl Print,
-    img: &mut [u8],
-    request: &[u8],
-    draw: &[u8],
-    answers: &[u8],
-    s: State,
-) -> State {
-    let mut response = [print::FILL; 8192];
-    let mut next = [print::FILL; 8192];
-    let old = wire::part(img, 0, s.image);
-    let o = settle_within(old, request, draw, answers, &mut response, &mut next, s);
-    print::settled(rt, &o, old, &response, &next);
-    renewed(o, &next, img, s)
-}
-
-// The same of a power-off, which has neither a draw nor a response.
-fn off_within(img: &[u8], next: &mut [u8], size: usize) -> Outcome {
-    if size <= next.len() {
-        return practice::power_off(img, &mut next[..size]);
+    fn settle(&mut self, rt: &impl Print, line: &[u8]) {
+        let mut request = [0u8; ROOM];
+        let mut draw = [0u8; ROOM];
+        let mut answers = [0u8; ROOM];
+        let mut response = [print::FILL; ROOM];
+        let mut next = [print::FILL; ROOM];
+        // Both buffers are lent whole where there is too little of either.
+        let (n, m) = if self.lent.response <= ROOM && self.lent.next <= ROOM {
+            (self.lent.response, self.lent.next)
+        } else {
+            (ROOM, ROOM)
+        };
+        let o = practice::settle(
+            self.image(),
+            console::unhex(field(line, 1), &mut request),
+            console::unhex(field(line, 2), &mut draw),
+            console::unhex(field(line, 3), &mut answers),
+            &mut response[..n],
+            &mut next[..m],
+        );
+        print::settled(rt, &o, self.image(), &response, &next);
+        self.renew(&o, &next);
     }
-    practice::power_off(img, next)
-}
 
-fn off_line(rt: &impl Print, img: &mut [u8], s: State) -> State {
-    let mut next = [print::FILL; 8192];
-    let old = wire::part(img, 0, s.image);
-    let o = off_within(old, &mut next, s.next);
-    print::powered_off(rt, &o, old, &next);
-    renewed(o, &next, img, s)
-}
-
-fn settle_line(rt: &impl Print, line: &[u8], img: &mut [u8], s: State) -> State {
-    let mut bytes = [0u8; 8192];
-    let a = text::unhex(first(line), &mut bytes, 0);
-    let b = text::unhex(second(line), &mut bytes, a);
-    let c = text::unhex(third(line), &mut bytes, b);
-    settle(
-        rt,
-        img,
-        between(&bytes, 0, a),
-        between(&bytes, a, b),
-        between(&bytes, b, c),
-        s,
-    )
-}
-
-fn run_line(rt: &impl Print, line: &[u8], img: &mut [u8], s: State) -> State {
-    match wire::get8(line, 0) {
-        b'I' => {
-            return image_line(line, img, s);
-        }
-        b'W' => {
-            return write_line(line, img, s);
-        }
-        b'L' => {
-            return lend_line(line, s);
-        }
-        b'A' => {
-            return ask_line(rt, line, img, s);
-        }
-        b'S' => {
-            return settle_line(rt, line, img, s);
-        }
-        b'O' => {
-            return off_line(rt, img, s);
-        }
-        _ => {
-            print::same(rt, line);
-            return s;
-        }
+    fn power_off(&mut self, rt: &impl Print) {
+        let mut next = [print::FILL; ROOM];
+        let n = self.lent.next.min(ROOM);
+        let o = practice::power_off(self.image(), &mut next[..n]);
+        print::powered_off(rt, &o, self.image(), &next);
+        self.renew(&o, &next);
     }
-}
 
-// A byte of standard input: it ends the line in hand, or belongs to it.
-fn take_byte(rt: &impl Print, b: u8, line: &mut [u8], img: &mut [u8], s: State) -> State {
-    let n = s.line;
-    if b == lines::LINE_FEED {
-        return run_line(rt, wire::part(line, 0, n), img, s.with_line(0));
-    }
-    s.with_line(wire::put8(line, n, b))
-}
-
-fn take_bytes(rt: &impl Print, bytes: &[u8], line: &mut [u8], img: &mut [u8], s: State) -> State {
-    let mut t = s;
-    let mut i = 0;
-    while i < bytes.len() {
-        t = take_byte(rt, bytes[i], line, img, t);
-        i += 1;
-    }
-    t
-}
-
-fn read_some(
-    rt: &impl Print,
-    from: &mut impl Read,
-    line: &mut [u8],
-    img: &mut [u8],
-    s: State,
-) -> State {
-    let mut bytes = [0u8; console::READ_ROOM];
-    let n = console::read_full(from, &mut bytes);
-    if n == 0 {
-        let mut t = s;
-        t.ended = true;
-        return t;
-    }
-    take_bytes(rt, &bytes[..n], line, img, s)
-}
-
-// Nothing says that the input ends, so the turns are counted, from a number that no run uses up.
-fn run(rt: &impl Print, from: &mut impl Read, line: &mut [u8], img: &mut [u8]) {
-    let mut s = State::new();
-    let mut turns = u64::MAX;
-    while turns > 0 {
-        s = read_some(rt, from, line, img, s);
-        let ended = s.ended;
-        if ended {
-            return;
+    fn run_line(&mut self, rt: &impl Print, line: &[u8]) {
+        match wire::get8(line, 0) {
+            b'I' => self.length = text::unhex(field(line, 1), &mut self.room, 0),
+            b'W' => {
+                text::unhex(field(line, 2), &mut self.room, number(field(line, 1)));
+            }
+            b'L' => {
+                self.lent = Lent {
+                    questions: number(field(line, 1)),
+                    response: number(field(line, 2)),
+                    next: number(field(line, 3)),
+                };
+            }
+            b'A' => self.ask(rt, line),
+            b'S' => self.settle(rt, line),
+            b'O' => self.power_off(rt),
+            _ => print::same(rt, line),
         }
-        turns -= 1;
     }
 }
 
 fn main(rt: HostRuntime) {
-    let mut line = [0u8; 8192];
-    let mut img = [0u8; CARD_ROOM];
-    run(&rt, &mut rt.stdin(), &mut line, &mut img);
+    let mut table = Table {
+        room: [0u8; CARD_ROOM],
+        length: 0,
+        lent: Lent {
+            questions: manual::QUESTIONS_ROOM,
+            response: manual::RESPONSE_ROOM,
+            next: layout::IMAGE_ROOM,
+        },
+    };
+    let mut line = [0u8; ROOM];
+    console::each_line(&mut rt.stdin(), &mut line, |line| table.run_line(&rt, line));
 }

@@ -183,6 +183,34 @@ pub decimal_more : (n : ℕ) → 10 ≤ n → decimal_of n ≡ decimal_of (n / 1
 unfolding decimal_of digits_of
 decimal_more n h = rw (le-ltb _ _ h) (ap (λ l. l ++ ((n % 10 + 48) ∷ [])) (enough n (suc (n / 10)) (n / 10) (omega arith) (omega arith)))
 
+pub decimal_some : (n : ℕ) → 1 ≤ length (decimal_of n)
+decimal_some n = go (dec_lt n 10)
+  where
+    go : Dec (n < 10) → 1 ≤ length (decimal_of n)
+    go (yes x) = rw (decimal_small n x) (omega arith)
+    go (no x) = let y : 10 ≤ n = omega (arith, x) in rw (decimal_more n y) (simp length-append (omega arith))
+
+-- TEN DIGITS are enough for 32 bits
+more_digits : (k m : ℕ) → ((n : ℕ) → n < m → length (decimal_of n) ≤ k) → (n : ℕ) → n < 10 * m → length (decimal_of n) ≤ k + 1
+more_digits k m h n p = go (dec_lt n 10)
+  where
+    go : Dec (n < 10) → length (decimal_of n) ≤ k + 1
+    go (yes x) = rw (decimal_small n x) (omega arith)
+    go (no x) =
+        let y : 10 ≤ n = omega (arith, x) in
+        let z : n / 10 < m = omega arith in
+        rw (decimal_more n y, length-append (decimal_of (n / 10)) ((n % 10 + 48) ∷ [])) (omega (arith, h (n / 10) z))
+
+one_digit : (n : ℕ) → n < 10 → length (decimal_of n) ≤ 1
+one_digit n h = rw (decimal_small n h) (omega arith)
+
+five_digits : (n : ℕ) → n < 100000 → length (decimal_of n) ≤ 5
+five_digits = more_digits 4 10000 (more_digits 3 1000 (more_digits 2 100 (more_digits 1 10 one_digit)))
+
+pub ten_digits : (n : ℕ) → n < 4294967296 → length (decimal_of n) ≤ 10
+ten_digits n h =
+    more_digits 9 1000000000 (more_digits 8 100000000 (more_digits 7 10000000 (more_digits 6 1000000 (more_digits 5 100000 five_digits)))) n (omega arith)
+
 -- by the digits of a number, one after the other
 by_digits : (P : ℕ → Type 0) → ((n : ℕ) → n < 10 → P n) → ((n : ℕ) → 10 ≤ n → P (n / 10) → P n) → (n : ℕ) → P n
 by_digits P small more n = go (suc n) n (omega arith)
@@ -250,3 +278,6 @@ pub is_digits_decimal_of : (n : ℕ) → is_digits (decimal_of n) ≡ true
 unfolding all_of is_digit
 is_digits_decimal_of zero = rw (decimal_small 0 (omega arith))
 is_digits_decimal_of (suc n) = (led (suc n) (omega arith)).digits
+
+-- WHAT THE AUTOMATIC PROOFS CITE besides std's lemmas
+pub ruleset steps = (all_stop, all_go, all_end, decimal_step, decimal_end, decimal_grows, length_unhex, length_hex_of)

@@ -10,7 +10,7 @@ use lib.Seq.{length-take-le, drop-cons, take_at, drop-drop, drop-append-add}
 use lib.Dec.{ltb, eqb}
 use borrow.Author.Tests.{lt-ltb, ltb-true, ltb-false, eq-eqb, ne_eqb, eqb-true, not-true}
 use Rattle.wire.specs.Wire.{joined}
-use Rattle.wire.proofs.Laws.{by_cases, never, both_true}
+use Rattle.wire.proofs.Laws.{by_cases, never, both_true, part_plain}
 use Rattle.text.specs.Text.{all_of}
 use Rattle.text.specs.Lines.{length_to, head_to, tail_after, next_line, start_of, from_line, ended, before, lines_of}
 
@@ -60,6 +60,9 @@ pub start_reached : (k i : ℕ) (s : List ℕ) → 1 ≤ i → i ≤ max 1 k →
 unfolding start_of
 start_reached zero i s h h₁ h₂ = let e : i ≡ 1 = omega arith in rw e
 start_reached (suc k) i s h h₁ h₂ = let e : i ≡ suc k = omega arith in ap (λ (n : ℕ). start_of n s) e
+
+-- what the automatic proofs cite besides std's lemmas
+pub ruleset scanning = (scan_found, scan_on, scan_end, length_to_within, part_plain, start_next)
 
 -- TEXT PUT TOGETHER: what b does not stand in, with a b after it. An element that is not b:
 abbrev pub other : ℕ → ℕ → Bool

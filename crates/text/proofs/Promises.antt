@@ -2,9 +2,10 @@
 use Prim.Native.Nat.{ℕ}
 use mathlib.Core.List.{List}
 use Rattle.wire.specs.OneOutcome.{OneOutcome, OneSeen, plain}
-use Rattle.wire.proofs.Unique.{one_equal, one_write}
+use Rattle.wire.proofs.Unique.{one_equal, one_write, one_page}
 use Rattle.text.specs.contracts.put_hex as put_hex
 use Rattle.text.specs.contracts.put_decimal as put_decimal
+use Rattle.text.specs.contracts.put_decimal_then as put_decimal_then
 use Rattle.text.specs.contracts.unhex as unhex
 use Rattle.text.specs.contracts.is_hex as is_hex
 use Rattle.text.specs.contracts.is_digits as is_digits
@@ -22,6 +23,9 @@ put_hex_one M 𝓤 𝓛 m r κs a g z z' ws ws' = plain 𝓤 (λ p q. let e = on
 
 pub put_decimal_one : OneOutcome put_decimal.ended (λ M 𝓤. put_decimal.clauses {𝓤 = 𝓤})
 put_decimal_one M 𝓤 𝓛 m r κs a g z z' ws ws' = plain 𝓤 (λ p q. let e = one_write p q in (e.1, λ i. (e.0 i, (tt, (tt, tt)))))
+
+pub put_decimal_then_one : OneOutcome put_decimal_then.ended (λ M 𝓤. put_decimal_then.clauses {𝓤 = 𝓤})
+put_decimal_then_one M 𝓤 𝓛 m r κs a g z z' ws ws' = plain 𝓤 (λ p q. let e = one_page p.0 q.0 in (e.1, λ i. (e.0 i, (tt, (tt, (tt, tt))))))
 
 pub unhex_one : OneOutcome unhex.ended (λ M 𝓤. unhex.clauses {𝓤 = 𝓤})
 unhex_one M 𝓤 𝓛 m r κs a g z z' ws ws' = plain 𝓤 (λ p q. let e = one_write p q in (e.1, λ i. (tt, (e.0 i, (tt, tt)))))

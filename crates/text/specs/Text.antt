@@ -1,9 +1,7 @@
 -- Numbers as text: capital hex digits and decimal digits, 01 "The personalisation sheet". Every definition is total. Assumes nothing.
-use Rattle.std.specs.Prelude.{ℕ, zero, suc, ◌+◌, ◌-◌, ◌*◌, ◌/◌, ◌%◌, Bool, true, cond, not, ◌&&◌, ◌||◌, List, [], ◌∷◌, ◌++◌, length, get_or, leb, ltb, eqb}
+use Rattle.std.specs.Prelude.{ℕ, zero, suc, ◌+◌, ◌-◌, ◌*◌, ◌/◌, ◌%◌, Bool, true, cond, not, ◌&&◌, ◌||◌, List, [], ◌∷◌, ◌++◌, length, get_or, leb, ltb, eqb, Option, Some, None}
 use Prim.Native.Char.{code}
 use Prim.Native.String.{String, [] as []ˢ, ◌∷◌ as ◌∷ˢ◌}
-use Rattle.text.specs.declared.Number.{Number}
-use Rattle.text.specs.declared.Number.TheVariants.{Is, None}
 
 -- the bytes of a text in ASCII, as `b".."` is in code
 abbrev pub ascii : String → List ℕ
@@ -64,11 +62,11 @@ unfoldable pub plain_decimal : List ℕ → Bool
 plain_decimal s = is_digits s && (leb 1 (length s) && (eqb (length s) 1 || not (eqb (get_or s 0 0) 48)))
 
 -- a number where 32 bits hold it
-unfoldable pub fitting : ℕ → Number
-fitting n = cond (leb n 4294967295) (Is n) None
+unfoldable pub fitting : ℕ → Option ℕ
+fitting n = cond (leb n 4294967295) (Some n) None
 
 -- the number of at most 32 bits that a text is in decimal, no leading zero
-unfoldable pub number_of : List ℕ → Number
+unfoldable pub number_of : List ℕ → Option ℕ
 number_of s = cond (plain_decimal s) (fitting (decimal s)) None
 
 -- the digits of n, at most k of them

@@ -1,23 +1,23 @@
 // Text in lines, each ended by a line feed, and the parts of a line, parted by tabs. All functions are total.
+#![tactic(auto, using(crate::proofs::LineLaws::scanning), unfolding(crate::specs::Lines::head_to, crate::specs::Lines::tail_after, crate::specs::Lines::next_line, crate::specs::Lines::from_line, crate::specs::Lines::line_of, crate::specs::Lines::ended))]
+
 ghost use Rattle.std.specs.Prelude.{◌≡◌};
 ghost use Rattle.text.specs.Lines.{length_to, head_to, tail_after, next_line, start_of, line_of, ended};
 
-pub const TAB: u8 = 9;
+pub const TAB: u8 = b'\t';
 
-pub const LINE_FEED: u8 = 10;
+pub const LINE_FEED: u8 = b'\n';
 
 // How many bytes stand before the first b; all where there is none.
 pub fn length_to(s: &[u8], b: u8) -> usize
     ensures { result ≡ length_to b s.now }
 {
-    let mut i = 0;
-    while i < s.len() {
-        if s[i] == b {
+    for (i, x) in s.iter().enumerate() {
+        if *x == b {
             return i;
         }
-        i += 1;
     }
-    i
+    s.len()
 }
 
 // What stands before the first b.
@@ -50,10 +50,8 @@ pub fn start_of(s: &[u8], k: u32) -> usize
     ensures { result ≡ start_of k s.now }
 {
     let mut at = 0;
-    let mut i: u32 = 1;
-    while i < k {
+    for _ in 1..k {
         at = next_line(s, at);
-        i += 1;
     }
     at
 }

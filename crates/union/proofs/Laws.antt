@@ -1,142 +1,161 @@
 -- What the proofs of `union` cite. Assumes nothing.
---     aside_..         two lists side by side, by what each begins with
---     pick_second, pick_first, pick_by_lem     which note comes next, by what is left.        pick_told    the last with the order known
---     step             a turn: what is left of the two lists side by side is the pair picked and what is left after it
---     lowest_..        the lowest clash, by the pair that comes next.        filled_..     what a run of notes put leaves
-use mathlib.Core.Path.{◌≡◌, refl, sym, ◌∙◌, ap, subst}
-use mathlib.Core.Bool.{Bool, true, false}
-use mathlib.Core.List.{List, [], ◌∷◌}
-use Prim.Native.Nat.{ℕ, ◌+◌, ◌≤◌, ◌<◌}
-use native.Mathlib.Omega.{arith}
-use borrow.Author.Tests.{lt-ltb, le-ltb, ltb-true, ltb-false}
-use lib.Dec.{ltb}
-use lib.ListN.{length, take, drop, get_or, set, replicate}
+use Rattle.std.proofs.Common.{◌≡◌, refl, sym, ap, ◌∙◌, ℕ, zero, suc, ◌+◌, ◌≤◌, ◌<◌, arith, Bool, true, false, cond, List, [], ◌∷◌, ◌++◌, length, take, drop, set, add-one, ltb, Option, Some, None, Ok, Err}
+use Rattle.std.proofs.Math.Seq.{take-length}
+use Rattle.std.specs.declared.cmp.Ordering.{Ordering}
+use Rattle.std.specs.declared.cmp.Ordering.TheVariants.{Less, Equal, Greater}
+use Rattle.std.specs.Iterator.{MakesProgress, item_count}
+use Rattle.std.specs.List.{find}
+use Rattle.std.specs.Option.{option_map}
 use Rattle.notes.specs.declared.Note.{Note}
-use Rattle.notes.specs.declared.Order.{Order}
-use Rattle.notes.specs.declared.Order.TheVariants.{Before, Same, After}
-use Rattle.notes.specs.Notes.{blank, order_of}
-use Rattle.shelf.specs.declared.Shelf.{Shelf}
-use Rattle.shelf.specs.declared.Outcome.{Outcome}
-use Rattle.shelf.specs.Shelf.{bad_of, filled, shelf_of}
-use Rattle.shelf.specs.Outcome.{answer_of}
-use Rattle.shelf.proofs.Laws.{front, gone}
-use Rattle.union.specs.declared.Pick.{Pick}
-use Rattle.union.specs.declared.Match.{Match}
-use Rattle.union.specs.declared.Match.TheVariants.{Agree, Differ}
-use Rattle.union.specs.Union.{by, Pair, First, Second, Both, seconds, besides, aside, note_in, notes_in, merged, clashes, lowest, decided, picked, pick_of, join_answer}
+use Rattle.notes.specs.Notes.{order_of}
+use Rattle.shelf.specs.declared.Refusal.TheVariants.{Full, NoRoom}
+use Rattle.shelf.specs.Shelf.{first_bad}
+use Rattle.shelf.specs.Outcome.{Outcome}
+use Rattle.union.specs.declared.Aside.{Aside}
+use Rattle.union.specs.Aside.{pairs_left}
+use Rattle.union.specs.Union.{by, Pair, First, Second, Both, seconds, besides, aside, note_in, notes_in, merged, clashes, lowest, fitting_of, matched_of, unless_bad, decided, join_of}
 
--- SIDE BY SIDE
-pub aside_cons : (x y : Note) (xs ys : List Note) → aside (x ∷ xs) (y ∷ ys) ≡ by (order_of x y) (First x ∷ aside xs (y ∷ ys)) (Both x y ∷ aside xs ys) (Second y ∷ aside (x ∷ xs) ys)
-unfolding aside besides
-aside_cons x y xs ys = refl
+-- SIDE BY SIDE, by what each list begins with
+module _ {f s : List Note} where
+  pub aside_none : f ≡ [] → s ≡ [] → aside f s ≡ []
+  unfolding aside seconds
+  aside_none e d = rw (e, d)
 
-pub aside_first : (x : Note) (xs : List Note) → aside (x ∷ xs) [] ≡ First x ∷ aside xs []
-unfolding aside besides
-aside_first x xs = refl
+  pub aside_first : {x : Note} {xs : List Note} → f ≡ x ∷ xs → s ≡ [] → aside f s ≡ First x ∷ aside xs s
+  unfolding aside besides
+  aside_first e d = rw (e, d)
 
-pub aside_second : (y : Note) (ys : List Note) → aside [] (y ∷ ys) ≡ Second y ∷ aside [] ys
-unfolding aside seconds
-aside_second y ys = refl
+  pub aside_second : {y : Note} {ys : List Note} → f ≡ [] → s ≡ y ∷ ys → aside f s ≡ Second y ∷ aside f ys
+  unfolding aside seconds
+  aside_second e d = rw (e, d)
 
-pub aside_none : aside [] [] ≡ []
-unfolding aside seconds
-aside_none = refl
+  module _ {x y : Note} {xs ys : List Note} (e : f ≡ x ∷ xs) (d : s ≡ y ∷ ys) where
+    pub aside_less : order_of x y ≡ Less → aside f s ≡ First x ∷ aside xs s
+    unfolding aside besides by
+    aside_less o = rw (e, d, o)
 
--- THE PICK
-module _ (a : List Note) (i n : ℕ) (b : List Note) (j m : ℕ) where
-  pub pick_second : n ≤ i → pick_of a i n b j m ≡ picked (Second (get_or b j blank)) i (j + 1)
-  unfolding pick_of
-  pick_second h = simp (le-ltb i n h)
+    pub aside_equal : order_of x y ≡ Equal → aside f s ≡ Both x y ∷ aside xs ys
+    unfolding aside besides by
+    aside_equal o = rw (e, d, o)
 
-  pub pick_first : i < n → m ≤ j → pick_of a i n b j m ≡ picked (First (get_or a i blank)) (i + 1) j
-  unfolding pick_of
-  pick_first h g = simp (lt-ltb i n h, le-ltb j m g)
+    pub aside_greater : order_of x y ≡ Greater → aside f s ≡ Second y ∷ aside f ys
+    unfolding aside besides by
+    aside_greater o = rw (e, d, o)
 
-  abbrev pub pick_by : Note → Note → Order → Pick
-  pick_by x y o = by o (picked (First x) (i + 1) j) (picked (Both x y) (i + 1) (j + 1)) (picked (Second y) i (j + 1))
+-- the first pair is taken: fewer are left
+pub taken : {s t : Aside} {p : Pair} → pairs_left s ≡ p ∷ pairs_left t → MakesProgress (λ _. Unit {0}) (item_count pairs_left) s (Some p) t
+taken e = record { on = λ _. (tt, tt, omega (arith, ap length e)); keeps = tt; rests = λ _. tt }
 
-  pub pick_by_lem : i < n → j < m → pick_of a i n b j m ≡ pick_by (get_or a i blank) (get_or b j blank) (order_of (get_or a i blank) (get_or b j blank))
-  unfolding pick_of
-  pick_by_lem h g = simp (lt-ltb i n h, lt-ltb j m g)
+-- THE LOWEST CLASH is the first pair that clashes
+at_clash : Pair → ℕ × ℕ
+at_clash p = ((note_in p).tablet, (note_in p).number)
 
-  pub pick_told : (x y : Note) (o v : Order) → i < n → j < m → x ≡ get_or a i blank → y ≡ get_or b j blank → o ≡ order_of x y → o ≡ v → pick_of a i n b j m ≡ pick_by x y v
-  pick_told x y o v h g ex ey eo ev = pick_by_lem h g ∙ rw (← ex, ← ey, ← eo, ev)
+found_pair : (ps : List Pair) → lowest ps ≡ option_map at_clash (find clashes ps)
+unfolding lowest at_clash
+found_pair [] = refl
+found_pair (p ∷ ps) = go (clashes p) (found_pair ps)
+  where
+    go : (t : Bool) → lowest ps ≡ option_map at_clash (find clashes ps) → cond t (Some (at_clash p)) (lowest ps) ≡ option_map at_clash (cond t (Some p) (find clashes ps))
+    go true e = refl
+    go false e = e
 
--- A TURN
-pub record Stepped (a : List Note) (i n : ℕ) (b : List Note) (j m : ℕ) (p : Pick) : Type 0 where
-  pub pair : Pair
-  pub rest : aside (drop i (take n a)) (drop j (take m b)) ≡ pair ∷ aside (drop p.i (take n a)) (drop p.j (take m b))
-  pub note : p.note ≡ note_in pair
-  pub clash : p.clash ≡ clashes pair
-  pub first : p.i ≤ n
-  pub second : p.j ≤ m
-  pub forward : i + j < p.i + p.j
+module _ (ps : List Pair) {r : Option Pair} (f : option_map (λ (p : Pair). p) r ≡ find clashes ps) where
+  pub no_clash : r ≡ None → None ≡ lowest ps
+  no_clash e = sym (found_pair ps ∙ ap (option_map at_clash) (sym f ∙ ap (option_map (λ (p : Pair). p)) e))
 
-module _ (a : List Note) (i n : ℕ) (b : List Note) (j m : ℕ) (la : n ≤ length a) (lb : m ≤ length b) where
-  abbrev x : Note
-  x = get_or a i blank
+  pub clash_at : {p : Pair} {x : Note} → r ≡ Some p → x ≡ note_in p → Some (x.tablet, x.number) ≡ lowest ps
+  unfolding at_clash
+  clash_at e d = sym (found_pair ps ∙ ap (option_map at_clash) (sym f ∙ ap (option_map (λ (p : Pair). p)) e) ∙ ap (λ (n : Note). Some (n.tablet, n.number)) (sym d))
 
-  abbrev y : Note
-  y = get_or b j blank
+-- HOW MANY pairs there are
+pub notes_length : (ps : List Pair) → length (notes_in ps) ≡ length ps
+unfolding notes_in
+notes_length [] = refl
+notes_length (p ∷ ps) = ap suc (notes_length ps)
 
-  in_both : i < n → j < m → (o : Order) → order_of x y ≡ o → Stepped a i n b j m (pick_by a i n b j m x y o)
-  unfolding by
-  in_both h g Before e = record { pair = First x; rest = rw (front a i n blank h la, front b j m blank g lb, aside_cons, e); note = refl; clash = refl; first = omega arith; second = omega arith; forward = omega arith }
-  in_both h g Same e = record { pair = Both x y; rest = rw (front a i n blank h la, front b j m blank g lb, aside_cons, e); note = refl; clash = refl; first = omega arith; second = omega arith; forward = omega arith }
-  in_both h g After e = record { pair = Second y; rest = rw (front a i n blank h la, front b j m blank g lb, aside_cons, e); note = refl; clash = refl; first = omega arith; second = omega arith; forward = omega arith }
+seconds_short : (s : List Note) → length (seconds s) ≤ length s
+unfolding seconds
+seconds_short [] = omega arith
+seconds_short (y ∷ ys) = let h = seconds_short ys in omega arith
 
-  by_tests : (s t : Bool) → ltb i n ≡ s → ltb j m ≡ t → i ≤ n → j ≤ m → i + j < n + m → Stepped a i n b j m (pick_of a i n b j m)
-  by_tests true true es et hi hj hl =
-      let h : i < n = ltb-true i n es in
-      let g : j < m = ltb-true j m et in
-      subst (Stepped a i n b j m) (sym (pick_by_lem a i n b j m h g)) (in_both h g _ refl)
-  by_tests true false es et hi hj hl =
-      let h : i < n = ltb-true i n es in
-      let g : m ≤ j = ltb-false j m et in
-      subst (Stepped a i n b j m) (sym (pick_first a i n b j m h g))
-      (record { pair = First x; rest = rw (front a i n blank h la, gone b j m g lb, aside_first); note = refl; clash = refl; first = omega arith; second = omega arith; forward = omega arith })
-  by_tests false t es et hi hj hl =
-      let h : n ≤ i = ltb-false i n es in
-      let g : j < m = omega arith in
-      subst (Stepped a i n b j m) (sym (pick_second a i n b j m h))
-      (record { pair = Second y; rest = rw (gone a i n h la, front b j m blank g lb, aside_second); note = refl; clash = refl; first = omega arith; second = omega arith; forward = omega arith })
+by_short : (o : Ordering) (n : ℕ) (b d a : List Pair) → length b ≤ n → length d ≤ n → length a ≤ n → length (by o b d a) ≤ n
+unfolding by
+by_short Less n b d a p q r = p
+by_short Equal n b d a p q r = q
+by_short Greater n b d a p q r = r
 
-  pub step : (p : Pick) → p ≡ pick_of a i n b j m → i ≤ n → j ≤ m → i + j < n + m → Stepped a i n b j m p
-  step p e hi hj hl = subst (Stepped a i n b j m) (sym e) (by_tests (ltb i n) (ltb j m) refl refl hi hj hl)
+besides_short : (x : Note) (rest : List Note → List Pair) (n : ℕ) → ((s : List Note) → length (rest s) ≤ n + length s) → (s : List Note) → length (besides x rest s) ≤ suc n + length s
+unfolding besides
+besides_short x rest n h [] = let k = h [] in omega arith
+besides_short x rest n h (y ∷ ys) =
+    let p = h (y ∷ ys) in
+    let q = h ys in
+    let r = besides_short x rest n h ys in
+    by_short (order_of x y) _ (First x ∷ rest (y ∷ ys)) (Both x y ∷ rest ys) (Second y ∷ besides x rest ys) (omega arith) (omega arith) (omega arith)
 
--- nothing is left
-pub all_gone : (a : List Note) (i n : ℕ) (b : List Note) (j m : ℕ) → n ≤ length a → m ≤ length b → n ≤ i → m ≤ j → aside (drop i (take n a)) (drop j (take m b)) ≡ []
-all_gone a i n b j m la lb h g = rw (gone a i n h la, gone b j m g lb, aside_none)
+pub aside_short : (f s : List Note) → length (aside f s) ≤ length f + length s
+unfolding aside
+aside_short [] s = let h = seconds_short s in omega arith
+aside_short (x ∷ xs) s = besides_short x (aside xs) (length xs) (aside_short xs) s
 
--- THE LOWEST CLASH
-pub lowest_here : (ps : List Pair) (p : Pair) (qs : List Pair) (x : Note) → ps ≡ p ∷ qs → x ≡ note_in p → clashes p ≡ true → lowest ps ≡ Differ x.tablet x.number
-unfolding lowest
-lowest_here ps p qs x e ex ec = ap lowest e ∙ rw (ec, ← ex)
+-- NOTES WRITTEN in a list j₀: n of the union, and what is left of the two lists
+pub record Laid (f s j₀ : List Note) (n : ℕ) (t : Aside) (j : List Note) : Type 0 where
+  pub left : n + length (pairs_left t) ≡ length (merged f s)
+  pub rest : drop n (merged f s) ≡ notes_in (pairs_left t)
+  pub list : j ≡ take n (merged f s) ++ drop n j₀
 
-pub lowest_on : (ps : List Pair) (p : Pair) (qs : List Pair) → ps ≡ p ∷ qs → clashes p ≡ false → lowest ps ≡ lowest qs
-unfolding lowest
-lowest_on ps p qs e ec = ap lowest e ∙ rw ec
+pub laid_none : {n : ℕ} {t : Aside} (s : Aside) (j : List Note) → n ≡ 0 → t ≡ s → Laid s.first.now s.second.now j n t j
+unfolding merged
+laid_none s j e d = rw (e, d) (record { left = omega (arith, notes_length (pairs_left s)); rest = refl; list = refl })
 
-pub lowest_none : (ps : List Pair) → ps ≡ [] → lowest ps ≡ Agree
-unfolding lowest
-lowest_none ps e = ap lowest e
+set_here : (n : ℕ) (l j : List Note) (x : Note) (r : List Note) → n < length j → drop n l ≡ x ∷ r → set (take n l ++ drop n j) n x ≡ take (suc n) l ++ drop (suc n) j
+set_here zero (y ∷ l) (z ∷ j) x r h e = let d : y ≡ x = cc in rw d
+set_here (suc n) (y ∷ l) (z ∷ j) x r h e = ap (λ (k : List Note). y ∷ k) (set_here n l j x r (omega arith) e)
+set_here zero [] j x r h e = cc
+set_here zero (y ∷ l) [] x r h e = absurd (omega arith)
+set_here (suc n) [] j x r h e = cc
+set_here (suc n) (y ∷ l) [] x r h e = absurd (omega arith)
 
--- THE UNION: one note more
-pub filled_next : (d : List Note) (k : ℕ) (ps : List Pair) (p : Pair) (qs : List Pair) (x : Note) (d' : List Note) → ps ≡ p ∷ qs → x ≡ note_in p → d' ≡ set d k x → filled d k (notes_in ps) ≡ filled d' (k + 1) (notes_in qs)
-unfolding filled notes_in
-filled_next d k ps p qs x d' e ex f = ap (λ (l : List Pair). filled d k (notes_in l)) e ∙ rw (← ex) (ap (λ (z : List Note). filled z (k + 1) (notes_in qs)) (sym f))
+drop-next : (n : ℕ) (l : List Note) (x : Note) (r : List Note) → drop n l ≡ x ∷ r → drop (suc n) l ≡ r
+drop-next zero [] x r e = cc
+drop-next zero (y ∷ l) x r e = cc
+drop-next (suc n) [] x r e = cc
+drop-next (suc n) (y ∷ l) x r e = drop-next n l x r e
 
-pub filled_none : (d : List Note) (k : ℕ) (ps : List Pair) → ps ≡ [] → filled d k (notes_in ps) ≡ record { notes = d; count = k }
-unfolding filled notes_in
-filled_none d k ps e = ap (λ (l : List Pair). filled d k (notes_in l)) e
+module _ {f s j₀ j : List Note} {n : ℕ} {t : Aside} (a : Laid f s j₀ n t j) where
+  pub laid_more : {u : Aside} {p : Pair} {x : Note} → length (merged f s) ≤ length j₀ → pairs_left t ≡ p ∷ pairs_left u → x ≡ note_in p → Laid f s j₀ (n + 1) u (set j n x)
+  unfolding notes_in
+  laid_more {u} {p} {x} h e d =
+      let l = ap length e in
+      let b = a.left in
+      let r = a.rest ∙ ap notes_in e in
+      record {
+        left = omega arith;
+        rest = rw (add-one, drop-next n (merged f s) (note_in p) _ r);
+        list = rw (a.list, d, add-one, set_here n (merged f s) j₀ (note_in p) _ (omega arith) r);
+      }
 
-pub shelf_start : (d l : List Note) → d ≡ replicate 256 blank → shelf_of l ≡ filled d 0 l
-unfolding shelf_of
-shelf_start d l e = ap (λ (z : List Note). filled z 0 l) (sym e)
+  pub laid_all : pairs_left t ≡ [] → j ≡ merged f s ++ drop (length (merged f s)) j₀
+  laid_all e =
+      let l = ap length e in
+      let b = a.left in
+      let k : n ≡ length (merged f s) = omega arith in
+      a.list ∙ rw (k, take-length (merged f s))
 
--- THE ANSWER, put together
-pub answered : (a : List Note) (n : ℕ) (b : List Note) (m places : ℕ) (s : Shelf) (found : Match) (k l : ℕ) (o : Outcome)
-    → s ≡ shelf_of (merged (take n a) (take m b)) → found ≡ lowest (aside (take n a) (take m b)) → k ≡ bad_of a n → l ≡ bad_of b m → o ≡ decided places k l found s.count
-    → answer_of o s.notes ≡ join_answer a n b m places
-unfolding join_answer merged
-answered a n b m places s found k l o es ef ek el eo = rw (eo, es, ef, ek, el)
+-- A JOIN THAT IS DONE counts the notes of the union
+fits : (t : Bool) (total n : ℕ) → ◌≡◌ {A = Outcome} (cond t (Err Full) (Ok total)) (Ok n) → n ≡ total
+fits true total n e = cc
+fits false total n e = cc
+
+counts : (t : Bool) (a b : Option ℕ) (m : Option (ℕ × ℕ)) (total n : ℕ)
+    → ◌≡◌ {A = Outcome} (cond t (Err NoRoom) (unless_bad 1 a (unless_bad 2 b (matched_of m total)))) (Ok n) → n ≡ total
+unfolding unless_bad matched_of fitting_of
+counts true a b m total n e = cc
+counts false (Some k) b m total n e = cc
+counts false None (Some k) m total n e = cc
+counts false None None (Some c) total n e = cc
+counts false None None None total n e = fits (ltb 256 total) total n e
+
+pub join_counts : (places : ℕ) (f s : List Note) (n : ℕ) → join_of places f s ≡ Ok n → n ≡ length (merged f s)
+unfolding join_of decided
+join_counts places f s n e = counts (ltb places 256) (first_bad f) (first_bad s) (lowest (aside f s)) (length (merged f s)) n e

@@ -1,170 +1,138 @@
-// Two books joined, Ask 8, as arrays of notes by value: side by side, the lowest clash, the union, the outcome.
+// Two books joined, Ask 8: side by side, the lowest clash, the union, the outcome.
 #![tactic(auto)]
 
-ghost use Rattle.std.specs.Prelude.{◌≡◌, ◌≤◌, take};
-ghost use Rattle.shelf.specs.Shelf.{most, shelf_of};
-ghost use Rattle.union.specs.Union.{aside, merged, lowest, pick_of, fitting_of, matched_of, decided, join_answer};
+ghost use Rattle.std.specs.Prelude.{◌≡◌, ◌+◌, ◌≤◌, ◌++◌, IfOk, length, drop};
+ghost use Rattle.shelf.specs.Shelf.{most};
+ghost use Rattle.shelf.specs.Outcome.{after_of};
+ghost use Rattle.union.specs.Union.{aside, note_in, clashes, merged, lowest, join_of};
 
-use notes::{Note, Order};
-use shelf::{Answer, MOST, Outcome, Shelf};
+use notes::Note;
+use shelf::{MOST, Outcome, Refusal};
+use std::cmp::Ordering;
 
-// Whether the notes that both books have are the same in both; else the lowest that is not.
-#[derive(Drop)]
-pub enum Match {
-    Agree,
-    Differ { tablet: u8, number: u16 },
+// A note that the first book alone has, or the second alone, or one of each with the same tablet and number.
+#[derive(Clone, Copy)]
+pub enum Pair {
+    First(Note),
+    Second(Note),
+    Both(Note, Note),
 }
 
-// The note that comes next, whether the books differ in it, and the places after it.
-#[derive(Drop)]
-struct Pick {
-    note: Note,
-    clash: bool,
-    i: usize,
-    j: usize,
-}
-
-fn next(a: [Note; MOST], i: usize, n: usize, b: [Note; MOST], j: usize, m: usize) -> Pick
-    requires { (i ≤ most) × (j ≤ most) }
-    ensures { result ≡ pick_of a i n b j m }
-{
-    if n <= i {
-        return Pick {
-            note: shelf::got(b, j),
-            clash: false,
-            i: i,
-            j: j + 1,
-        };
-    }
-    if m <= j {
-        return Pick {
-            note: shelf::got(a, i),
-            clash: false,
-            i: i + 1,
-            j: j,
-        };
-    }
-    let x = shelf::got(a, i);
-    let y = shelf::got(b, j);
-    match notes::order_of(x, y) {
-        Order::Before => Pick {
-            note: x,
-            clash: false,
-            i: i + 1,
-            j: j,
-        },
-        Order::Same => Pick {
-            note: x,
-            clash: wire::unless(notes::alike(x, y)),
-            i: i + 1,
-            j: j + 1,
-        },
-        Order::After => Pick {
-            note: y,
-            clash: false,
-            i: i,
-            j: j + 1,
-        },
-    }
-}
-
-fn lowest_clash(a: [Note; MOST], n: usize, b: [Note; MOST], m: usize) -> Match
-    requires { (n ≤ most) × (m ≤ most) }
-    ensures { result ≡ lowest (aside (take n a) (take m b)) }
-{
-    let mut i = 0;
-    let mut j = 0;
-    while i + j < n + m {
-        let p = next(a, i, n, b, j, m);
-        let x = p.note;
-        if p.clash {
-            return Match::Differ {
-                tablet: x.tablet,
-                number: x.number,
-            };
+impl Pair {
+    // The note of it that the union has.
+    fn note(&self) -> Note
+        ensures { result ≡ note_in self.now }
+    {
+        match self {
+            Pair::First(x) | Pair::Both(x, _) => *x,
+            Pair::Second(y) => *y,
         }
-        i = p.i;
-        j = p.j;
     }
-    Match::Agree
-}
 
-fn merge(a: [Note; MOST], n: usize, b: [Note; MOST], m: usize) -> Shelf
-    requires { (n ≤ most) × (m ≤ most) }
-    ensures { result ≡ shelf_of (merged (take n a) (take m b)) }
-{
-    let mut out = shelf::blanks();
-    let mut k: usize = 0;
-    let mut i: usize = 0;
-    let mut j: usize = 0;
-    while i + j < n + m {
-        let p = next(a, i, n, b, j, m);
-        let longer = shelf::put(out, k, p.note);
-        out = longer;
-        i = p.i;
-        j = p.j;
-        k += 1;
-    }
-    Shelf {
-        notes: out,
-        count: k,
+    fn clashes(&self) -> bool
+        ensures { result ≡ clashes self.now }
+    {
+        match self {
+            Pair::Both(x, y) => x != y,
+            Pair::First(_) => false,
+            Pair::Second(_) => false,
+        }
     }
 }
 
-fn fitting(total: usize) -> Outcome
-    ensures { result ≡ fitting_of total }
+// Two books side by side, by tablet and number: what is left of each.
+#[derive(Drop)]
+struct Aside<'a> {
+    first: &'a [Note],
+    second: &'a [Note],
+}
+
+impl<'a> Iterator for Aside<'a> {
+    ghost use Rattle.std.specs.Iterator.{YieldsFirst, item_count};
+    ghost use Rattle.union.specs.Aside.{pairs_left};
+
+    type Item = Pair;
+
+    ghost next_gives = { YieldsFirst pairs_left };
+
+    ghost remaining = { item_count pairs_left };
+
+    fn next(&mut self) -> Option<Pair> {
+        let Some((x, xs)) = self.first.split_first() else {
+            let (y, ys) = self.second.split_first()?;
+            self.second = ys;
+            return Some(Pair::Second(*y));
+        };
+        let Some((y, ys)) = self.second.split_first() else {
+            self.first = xs;
+            return Some(Pair::First(*x));
+        };
+        match x.order_of(y) {
+            Ordering::Less => {
+                self.first = xs;
+                Some(Pair::First(*x))
+            }
+            Ordering::Equal => {
+                self.first = xs;
+                self.second = ys;
+                Some(Pair::Both(*x, *y))
+            }
+            Ordering::Greater => {
+                self.second = ys;
+                Some(Pair::Second(*y))
+            }
+        }
+    }
+}
+
+// The tablet and number of the lowest note that both books have, but not the same.
+fn lowest_clash(first: &[Note], second: &[Note]) -> Option<(u8, u16)>
+    ensures { result ≡ lowest (aside first.now second.now) }
 {
+    let clash = Aside { first, second }.find(|pair| pair.clashes())?.note();
+    Some((clash.tablet, clash.number))
+}
+
+// How many notes the union of two books has.
+fn total(first: &[Note], second: &[Note]) -> usize
+    requires { length first.now + length second.now ≤ 512 }
+    ensures { result ≡ length (merged first.now second.now) }
+{
+    Aside { first, second }.count()
+}
+
+// Each note of both books once, into the front of a list with room for them.
+fn merge(first: &[Note], second: &[Note], joined: &mut [Note])
+    requires { length (merged first.now second.now) ≤ length joined.old }
+    ensures { joined.new ≡ merged first.now second.now ++ drop (length (merged first.now second.now)) joined.old }
+{
+    for (i, pair) in (Aside { first, second }).enumerate() {
+        joined[i] = pair.note();
+    }
+}
+
+// Two books joined, into a list. On a refusal it is as it was.
+pub fn join(first: &[Note], second: &[Note], joined: &mut [Note]) -> Outcome
+    ensures { (result ≡ join_of (length joined.old) first.now second.now)
+        × (joined.new ≡ after_of result (merged first.now second.now) joined.old)
+        × IfOk result (λ n. n ≤ most) }
+{
+    if joined.len() < MOST {
+        return Err(Refusal::NoRoom);
+    }
+    if let Some(line) = shelf::first_bad(first) {
+        return Err(Refusal::BadLine { book: 1, line });
+    }
+    if let Some(line) = shelf::first_bad(second) {
+        return Err(Refusal::BadLine { book: 2, line });
+    }
+    if let Some((tablet, number)) = lowest_clash(first, second) {
+        return Err(Refusal::Clash { tablet, number });
+    }
+    let total = total(first, second);
     if MOST < total {
-        return Outcome::Full;
+        return Err(Refusal::Full);
     }
-    Outcome::Done(total as u32)
-}
-
-fn matched(found: Match, total: usize) -> Outcome
-    ensures { result ≡ matched_of found total }
-{
-    match found {
-        Match::Agree => fitting(total),
-        Match::Differ { tablet, number } => Outcome::Clash { tablet, number },
-    }
-}
-
-fn decide(places: usize, first: u16, second: u16, found: Match, total: usize) -> Outcome
-    ensures { result ≡ decided places first second found total }
-{
-    if places < MOST {
-        return Outcome::NoRoom;
-    }
-    if 0 < first {
-        return Outcome::BadLine {
-            book: 1,
-            line: first,
-        };
-    }
-    if 0 < second {
-        return Outcome::BadLine {
-            book: 2,
-            line: second,
-        };
-    }
-    matched(found, total)
-}
-
-// The join of n notes, whose first 256 are a, and of m notes, whose first 256 are b, for a list of so many places.
-pub fn joined(a: [Note; MOST], n: usize, b: [Note; MOST], m: usize, places: usize) -> Answer
-    ensures { result ≡ join_answer a n b m places }
-{
-    let k = shelf::lesser(n, MOST);
-    let l = shelf::lesser(m, MOST);
-    let s = merge(a, k, b, l);
-    let found = lowest_clash(a, k, b, l);
-    let o = decide(
-        places,
-        shelf::first_bad(a, n),
-        shelf::first_bad(b, m),
-        found,
-        s.count,
-    );
-    let v = s.notes;
-    shelf::answered(o, v)
+    merge(first, second, joined);
+    Ok(total as u32)
 }

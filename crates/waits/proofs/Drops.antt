@@ -7,6 +7,7 @@ use mathlib.Core.Bool.{Bool, true, false, cond}
 use lib.ListN.{length}
 use lib.Dec.{leb, eqb, ltb}
 use borrow.Author.Tests.{eqb-true}
+use Rattle.std.specs.Prelude.{Ok, Err}
 use Rattle.wire.specs.Wire.{alike}
 use Rattle.wire.proofs.Laws.{by_cases, alike_same, part_none}
 use Rattle.wire.proofs.Parts.{part_pad}
@@ -18,10 +19,9 @@ use Rattle.card.specs.Values.{u16, counted, idle, no_wait, request_of}
 use Rattle.card.specs.Image.{decode}
 use Rattle.card.specs.Valid.{is_card}
 use Rattle.kept.proofs.Waits.{dropped_ok, card_bounds}
-use Rattle.manual.specs.declared.Verdict.{Verdict}
-use Rattle.manual.specs.declared.Verdict.TheVariants.{Pass, Stop}
 use Rattle.manual.specs.declared.Pace.{Pace}
 use Rattle.manual.specs.declared.Pace.TheVariants.{Refused, Waits, Goes}
+use Rattle.manual.specs.Row.{Verdict}
 use Rattle.manual.specs.Delay.{entered, is_held, pending_after, pending_off}
 use Rattle.manual.specs.Settle.{State, Call, sent_in, matched, judged, said, said_by, leaving, paced_by, paced, waiting, card_after, powered_off}
 use Rattle.story.specs.Buffers.{image_off}
@@ -46,8 +46,8 @@ refused_card c q d a e =
   where
     go : (g : Verdict) → entered g ≡ false
         → card_after (leaving (rested c q) (said_by g (matched c.codes (sent_in q)) c.face q d a)) c.codes q ≡ waiting (rested c q) c
-    go (Pass k) n = clash refl n
-    go (Stop k w) n = refl
+    go (Ok k) n = clash refl n
+    go (Err e) n = refl
 
 not_fewer : (w : Wait) → w.wrong ≤ (counted w).wrong
 not_fewer w = by_cases (λ (n : ℕ). w.wrong ≤ n) (ltb w.wrong most_wrong) (λ _. omega arith) (λ _. omega arith)

@@ -6,16 +6,15 @@ use mathlib.Core.Path.{◌≡◌, refl, sym, ap, ◌∙◌}
 use mathlib.Core.List.{List}
 use mathlib.Core.Bool.{Bool, true, false, cond}
 use borrow.Author.Tests.{leb-true, ne_eqb}
+use Rattle.std.specs.Prelude.{Ok, Err}
 use Rattle.wire.proofs.Laws.{by_cases}
 use Rattle.card.specs.declared.Pending.{Pending}
 use Rattle.card.specs.declared.Card.{Card}
 use Rattle.card.specs.Values.{u8, no_pending}
 use Rattle.card.specs.Image.{decode}
-use Rattle.manual.specs.declared.Verdict.{Verdict}
-use Rattle.manual.specs.declared.Verdict.TheVariants.{Pass, Stop}
 use Rattle.manual.specs.declared.Pace.TheVariants.{Refused}
 use Rattle.manual.specs.Request.{command}
-use Rattle.manual.specs.Row.{Matched, asked}
+use Rattle.manual.specs.Row.{Matched, asked, Verdict}
 use Rattle.manual.specs.Commands.{row}
 use Rattle.manual.specs.Delay.{entered, wrong_code, is_held, pending_after}
 use Rattle.manual.specs.Settle.{State, Call, sent_in, matched, judged, word_of, reason_of, Said, leaving, paced_by, waiting, card_after, said_to, lent, posed}
@@ -32,8 +31,8 @@ right_code : (c : Card) (q : List ℕ) → enters c q ≡ true → over_wrong c 
 right_code c q = go (judged (matched c.codes (sent_in q)) c.face q)
   where
     go : (g : Verdict) → entered g ≡ true → wrong_code (row (command q)) (matched c.codes (sent_in q)) (sent_in q) g ≡ false
-    go (Pass k) e = refl
-    go (Stop n w) e = let l = leb-true 11 n e in rw (ne_eqb n 6 (λ z. omega arith), ne_eqb n 10 (λ z. omega arith)) refl
+    go (Ok k) e = refl
+    go (Err w) e = let l = leb-true 11 w.check e in rw (ne_eqb w.check 6 (λ z. omega arith), ne_eqb w.check 10 (λ z. omega arith)) refl
 
 module _ (c : Card) (n : Prompt c) (q : List ℕ) where
   goes : wait_of c q ≡ 0

@@ -12,24 +12,12 @@ use lib.Seq.{take_at, drop-append-add, drop-drop, drop-cons, drop-nil, paste, ta
 use lib.Bits.{bit_or, or_add_and, and_le_l, and_le_r, or_zero_l}
 use lib.Dec.{leb, eqb}
 use borrow.Author.Tests.{le-leb, lt-leb, leb-true, leb-false, eq-eqb, ne_eqb, eqb-true}
-use Rattle.wire.specs.declared.Check.{Check}
-use Rattle.wire.specs.declared.Check.TheVariants.{Fine, Failed}
-use Rattle.wire.specs.Wire.{verdict, part, put, room, fit, placed, Wrote, Runs, page, Wrotes, joined, pad, alike, all_zero}
+use Rattle.wire.specs.Wire.{part, put, room, fit, placed, Wrote, Runs, page, Wrotes, joined, pad, alike, all_zero}
 
 -- CHECKS
 pub by_cases : {A : Type 0} (P : A → Type 0) (b : Bool) {x y : A} → (b ≡ true → P x) → (b ≡ false → P y) → P (cond b x y)
 by_cases P true f g = f refl
 by_cases P false f g = g refl
-
-pub fine : (b : Bool) {r : Check} → r ≡ Fine → r ≡ verdict b → b ≡ true
-unfolding verdict
-fine true p q = refl
-fine false p q = cc
-
-pub failed : (b : Bool) {r : Check} → r ≡ Failed → r ≡ verdict b → b ≡ false
-unfolding verdict
-failed true p q = cc
-failed false p q = refl
 
 pub both_true : (a b : Bool) → (a && b) ≡ true → (a ≡ true) × (b ≡ true)
 both_true true b e = (refl, e)
@@ -86,9 +74,10 @@ put_put d at v w h =
     ∙ ap (λ n. drop n d) e₂)
     ∙ simp append_assoc
 
-pub pasted : (d : List ℕ) (at : ℕ) (v : List ℕ) → paste d at v (length v) ≡ put d at v
+-- all of it pasted, an element at a time
+pub pasted : (d : List ℕ) (at : ℕ) (v : List ℕ) (i : ℕ) → i ≡ length v → paste d at v i ≡ put d at v
 unfolding put
-pasted d at v = rw take-length
+pasted d at v i e = rw (e, take-length)
 
 -- THE LAW: where there is room, a write is the plain one
 pub runs : {d : List ℕ} {at : ℕ} {v d' : List ℕ} {r : ℕ} → Wrote d at v d' r → Runs d at v d' r

@@ -1,12 +1,12 @@
 -- A list and its parts: what stands at a place is read off field by field (`peel`), and the parts side by side are the list (`beside`). Assumes nothing.
 use mathlib.Core.Path.{◌≡◌, refl, sym, ap, ◌∙◌}
-use mathlib.Core.List.{List, [], ◌∷◌, ◌++◌, append-nil}
-use mathlib.Core.Bool.{true, cond}
+use mathlib.Core.List.{List, ◌∷◌, ◌++◌, append-nil}
+use mathlib.Core.Bool.{true}
 use Prim.Native.Nat.{ℕ, zero, suc, ◌+◌, ◌-◌, ◌/◌, ◌%◌, ◌≤◌, ◌<◌}
 use native.Mathlib.Omega.{arith}
 use lib.ListN.{length, take, drop, get_or, replicate, length-append, length-drop, length-replicate}
 use lib.Seq.{take_at, drop_at, drop-drop, drop-cons, take-add, take_all, get_or-drop}
-use lib.Dec.{lit<, leb}
+use lib.Dec.{lit<}
 use Rattle.wire.specs.Wire.{part, put, fit, room, pad, num16, num32, be1, be2, be4, all_zero, Bytes}
 use Rattle.wire.proofs.Laws.{by_cases, length_put, padded, part_plain, has_room, room_true}
 

@@ -1,17 +1,5 @@
 -- Bytes: numbers in big-endian form, a part of a list, what a write leaves. Every definition is total. Assumes nothing.
 use Rattle.std.specs.Prelude.{ℕ, ◌+◌, ◌-◌, ◌*◌, ◌/◌, ◌%◌, ◌≤◌, ◌<◌, ◌≡◌, List, [], ◌∷◌, ◌++◌, Bool, true, false, cond, ◌&&◌, length, take, drop, get_or, replicate, leb, eqb}
-use Rattle.wire.specs.declared.Check.{Check}
-use Rattle.wire.specs.declared.Check.TheVariants.{Fine, Failed}
-
--- the outcome of a check, of its test
-unfoldable pub verdict : Bool → Check
-verdict true = Fine
-verdict false = Failed
-
--- a way to go on, by a check's outcome
-unfoldable pub pick : {A : Type 0} → Check → A → A → A
-pick Fine a b = a
-pick Failed a b = b
 
 -- the n elements from at on, or nothing where they run past the end
 unfoldable pub part : List ℕ → ℕ → ℕ → List ℕ

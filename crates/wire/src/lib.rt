@@ -2,47 +2,7 @@
 #![tactic(auto)]
 
 ghost use Rattle.std.specs.Prelude.{◌≡◌, ◌&&◌, ◌||◌, not, ◌++◌, ◌+◌, ◌*◌, ◌≤◌, ◌<◌, eqb, length, get_or, take, drop, replicate};
-ghost use Rattle.wire.specs.Wire.{verdict, part, put, room, Wrote, pad, num16, num32, be1, be2, be4, alike, all_zero};
-
-// The outcome of a check.
-#[derive(Clone, Copy)]
-pub enum Check {
-    Fine,
-    Failed,
-}
-
-pub fn checked(ok: bool) -> Check
-    ensures { result ≡ verdict ok }
-{
-    if ok {
-        return Check::Fine;
-    }
-    Check::Failed
-}
-
-pub fn both(a: bool, b: bool) -> bool
-    ensures { result ≡ (a && b) }
-{
-    if a { b } else { false }
-}
-
-pub fn either(a: bool, b: bool) -> bool
-    ensures { result ≡ (a || b) }
-{
-    if a { true } else { b }
-}
-
-pub fn unless(a: bool) -> bool
-    ensures { result ≡ not a }
-{
-    if a { false } else { true }
-}
-
-pub fn wide(x: u8) -> u32
-    ensures { (result ≡ x) × (result < 256) }
-{
-    x as u32
-}
+ghost use Rattle.wire.specs.Wire.{part, put, room, Wrote, pad, num16, num32, be1, be2, be4, alike, all_zero};
 
 // The byte at `at`, 0 past the end.
 fn byte_at(s: &[u8], at: usize) -> u8
@@ -61,29 +21,25 @@ pub fn get16(s: &[u8], at: u16) -> u16
     ensures { result ≡ num16 s.now at }
 {
     let i = at as u32;
-    (wide(get8(s, i)) * 256 + wide(get8(s, i + 1))) as u16
+    (get8(s, i) as u32 * 256 + get8(s, i + 1) as u32) as u16
 }
 
 pub fn get32(s: &[u8], at: u16) -> u32
     ensures { result ≡ num32 s.now at }
 {
     let i = at as u32;
-    let a = wide(get8(s, i));
-    let b = wide(get8(s, i + 1));
-    let c = wide(get8(s, i + 2));
-    a * 16777216 + b * 65536 + c * 256 + wide(get8(s, i + 3))
+    let a = get8(s, i) as u32;
+    let b = get8(s, i + 1) as u32;
+    let c = get8(s, i + 2) as u32;
+    a * 16777216 + b * 65536 + c * 256 + get8(s, i + 3) as u32
 }
 
 // The len bytes from start, as a part of the caller's slice; nothing where they run past the end.
 pub fn part(s: &[u8], start: usize, len: usize) -> &[u8]
     ensures { result.now ≡ part s.now start len }
 {
-    if start <= s.len() {
-        if len <= s.len() - start {
-            &s[start..start + len]
-        } else {
-            &s[..0]
-        }
+    if start <= s.len() && len <= s.len() - start {
+        &s[start..start + len]
     } else {
         &s[..0]
     }
@@ -103,12 +59,10 @@ fn copy_each(out: &mut [u8], at: usize, v: &[u8]) -> usize
     requires { at + length v.now ≤ length out.old }
     ensures { (out.new ≡ put out.old at v.now) × (result ≡ at + length v.now) }
 {
-    let mut i = 0;
-    while i < v.len() {
-        out[at + i] = v[i];
-        i += 1;
+    for (i, b) in v.iter().enumerate() {
+        out[at + i] = *b;
     }
-    at + i
+    at + v.len()
 }
 
 // Bytes that go by way of an array of its own. The compiler leaves the array out again, but knows by it that the two slices do not
@@ -129,10 +83,7 @@ fn copy(out: &mut [u8], at: usize, v: &[u8]) -> usize
 pub fn has_room(size: usize, at: usize, n: usize) -> bool
     ensures { result ≡ room size at n }
 {
-    if n <= size {
-        return at <= size - n;
-    }
-    false
+    n <= size && at <= size - n
 }
 
 // Copies v to the place `at`, and returns the place after it.
@@ -149,12 +100,10 @@ fn wipe(out: &mut [u8], at: usize, n: usize) -> usize
     requires { at + n ≤ length out.old }
     ensures { (out.new ≡ put out.old at (replicate n 0)) × (result ≡ at + n) }
 {
-    let mut i = 0;
-    while i < n {
+    for i in 0..n {
         out[at + i] = 0;
-        i += 1;
     }
-    at + i
+    at + n
 }
 
 fn fill(out: &mut [u8], at: usize, n: usize, v: &[u8]) -> usize
@@ -178,30 +127,40 @@ pub fn put_padded(out: &mut [u8], at: usize, n: usize, v: &[u8]) -> usize
     at
 }
 
+// A number as bytes, the highest first.
+pub fn be2(x: u16) -> [u8; 2]
+    ensures { result ≡ be2 x }
+{
+    [(x / 256) as u8, (x % 256) as u8]
+}
+
+pub fn be4(x: u32) -> [u8; 4]
+    ensures { result ≡ be4 x }
+{
+    [
+        (x / 16777216) as u8,
+        (x / 65536 % 256) as u8,
+        (x / 256 % 256) as u8,
+        (x % 256) as u8,
+    ]
+}
+
 pub fn put8(out: &mut [u8], at: usize, x: u8) -> usize
     ensures { Wrote out.old at (be1 x) out.new result }
 {
-    let b = [x];
-    put_bytes(out, at, &b)
+    put_bytes(out, at, &[x])
 }
 
 pub fn put16(out: &mut [u8], at: usize, x: u16) -> usize
     ensures { Wrote out.old at (be2 x) out.new result }
 {
-    let b = [(x / 256) as u8, (x % 256) as u8];
-    put_bytes(out, at, &b)
+    put_bytes(out, at, &be2(x))
 }
 
 pub fn put32(out: &mut [u8], at: usize, x: u32) -> usize
     ensures { Wrote out.old at (be4 x) out.new result }
 {
-    let b = [
-        (x / 16777216) as u8,
-        (x / 65536 % 256) as u8,
-        (x / 256 % 256) as u8,
-        (x % 256) as u8,
-    ];
-    put_bytes(out, at, &b)
+    put_bytes(out, at, &be4(x))
 }
 
 // All that a code and what was sent differ in, gathered over the whole code whatever was sent: 0 where nothing does. A byte that was not
@@ -210,11 +169,9 @@ fn differences(sent: &[u8], code: &[u8]) -> u8
     ensures { eqb result 0
         ≡ alike (take (length code.now) (sent.now ++ replicate (length code.now) 0)) code.now }
 {
-    let mut any: u8 = 0;
-    let mut i = 0;
-    while i < code.len() {
-        any = any | (byte_at(sent, i) ^ code[i]);
-        i += 1;
+    let mut any = 0;
+    for (i, b) in code.iter().enumerate() {
+        any |= byte_at(sent, i) ^ *b;
     }
     any
 }
@@ -237,11 +194,9 @@ fn quarters(s: &[u8], at: usize, n: usize) -> u8
     requires { at + n * 4 ≤ length s.now }
     ensures { all_zero (drop at s.now) ≡ (eqb result 0 && all_zero (drop (at + n * 4) s.now)) }
 {
-    let mut any: u8 = 0;
-    let mut i = 0;
-    while i < n {
+    let mut any = 0;
+    for i in 0..n {
         any = any | s[at + i] | s[at + n + i] | s[at + n * 2 + i] | s[at + n * 3 + i];
-        i += 1;
     }
     any
 }
@@ -256,74 +211,26 @@ pub fn zero_from(s: &[u8], at: usize) -> bool
     }
     let n = (s.len() - at) / 128 * 32;
     let mut any = quarters(s, at, n);
-    let mut i = at + n * 4;
-    while i < s.len() {
-        any = any | s[i];
-        i += 1;
+    for b in rest(s, at + n * 4) {
+        any |= *b;
     }
     any == 0
 }
 
-// Arrays by value: read, padded and written, for the lengths that callers have.
+// Arrays by value, of any length N.
 
-pub fn pad3(x: &[u8]) -> [u8; 3]
-    ensures { (result ≡ pad 3 x.now) × (length result ≡ 3) }
+// The bytes at the front of N, zero after them; all of them zero where they are more than N.
+pub fn padded<const N: usize>(x: &[u8]) -> [u8; N]
+    ensures { (result ≡ pad N x.now) × (length result ≡ N) }
 {
-    let mut a = [0u8; 3];
+    let mut a = [0u8; N];
     put_bytes(&mut a, 0, x);
     a
 }
 
-pub fn give3(out: &mut [u8], at: usize, a: [u8; 3]) -> usize
-    ensures { (Wrote out.old at a out.new result) × (length a ≡ 3) }
-{
-    put_bytes(out, at, &a)
-}
-
-pub fn give8(out: &mut [u8], at: usize, a: [u8; 8]) -> usize
-    ensures { (Wrote out.old at a out.new result) × (length a ≡ 8) }
-{
-    put_bytes(out, at, &a)
-}
-
-pub fn give16(out: &mut [u8], at: usize, a: [u8; 16]) -> usize
-    ensures { (Wrote out.old at a out.new result) × (length a ≡ 16) }
-{
-    put_bytes(out, at, &a)
-}
-
-pub fn give32(out: &mut [u8], at: usize, a: [u8; 32]) -> usize
-    ensures { (Wrote out.old at a out.new result) × (length a ≡ 32) }
-{
-    put_bytes(out, at, &a)
-}
-
-pub fn give64(out: &mut [u8], at: usize, a: [u8; 64]) -> usize
-    ensures { (Wrote out.old at a out.new result) × (length a ≡ 64) }
-{
-    put_bytes(out, at, &a)
-}
-
-pub fn give65(out: &mut [u8], at: usize, a: [u8; 65]) -> usize
-    ensures { (Wrote out.old at a out.new result) × (length a ≡ 65) }
-{
-    put_bytes(out, at, &a)
-}
-
-pub fn give512(out: &mut [u8], at: usize, a: [u8; 512]) -> usize
-    ensures { (Wrote out.old at a out.new result) × (length a ≡ 512) }
-{
-    put_bytes(out, at, &a)
-}
-
-pub fn give640(out: &mut [u8], at: usize, a: [u8; 640]) -> usize
-    ensures { (Wrote out.old at a out.new result) × (length a ≡ 640) }
-{
-    put_bytes(out, at, &a)
-}
-
-pub fn give1024(out: &mut [u8], at: usize, a: [u8; 1024]) -> usize
-    ensures { (Wrote out.old at a out.new result) × (length a ≡ 1024) }
+// Copies an array to the place `at`, and returns the place after it.
+pub fn give<const N: usize>(out: &mut [u8], at: usize, a: [u8; N]) -> usize
+    ensures { (Wrote out.old at a.entry out.new result) × (length a.entry ≡ N) }
 {
     put_bytes(out, at, &a)
 }

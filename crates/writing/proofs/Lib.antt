@@ -1,6 +1,4 @@
 pub mod Laws
-pub mod Held
 pub mod Renewed
-pub mod Left
 pub mod Promises
 pub mod Linked

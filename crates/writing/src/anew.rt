@@ -5,6 +5,7 @@ ghost use Rattle.card.specs.Layout.{pin_size, codes_at, pause_at, flags_at, wall
 ghost use Rattle.card.specs.Values.{held_key, held_block, held_issuer, held_request, held_last};
 ghost use Rattle.card.specs.Image.{enc_codes, enc_flags, enc_wallet, enc_key, enc_counters, enc_block, enc_issuer, enc_pending, enc_last};
 
+use crate::whole;
 use card::{Block, Codes, Counters, Flags, Key, Last, Pending, Wait, Wallet, layout};
 
 pub fn codes(img: &mut [u8], pin1: &[u8], pin2: &[u8]) -> usize
@@ -12,120 +13,114 @@ pub fn codes(img: &mut [u8], pin1: &[u8], pin2: &[u8]) -> usize
         (enc_codes (record { pin1 = pad pin_size pin1.now; pin2 = pad pin_size pin2.now }))
         img.new result }
 {
-    if wire::has_room(img.len(), layout::CODES_AT, layout::CODES_WIDTH) {
-        let a = wire::put_padded(img, layout::CODES_AT, Codes::PIN_SIZE, pin1);
-        return wire::put_padded(img, a, Codes::PIN_SIZE, pin2);
+    if !wire::has_room(img.len(), layout::CODES_AT, layout::CODES_WIDTH) {
+        return layout::CODES_AT;
     }
-    layout::CODES_AT
+    let at = wire::put_padded(img, layout::CODES_AT, Codes::PIN_SIZE, pin1);
+    wire::put_padded(img, at, Codes::PIN_SIZE, pin2)
 }
 
 // The pause, in seconds, among what is fixed: a recording tells it behind the card.
 pub fn pause(img: &mut [u8], seconds: u8) -> usize
     ensures { Wrote img.old pause_at (be1 seconds) img.new result }
 {
-    if wire::has_room(img.len(), layout::PAUSE_AT, 1) {
-        return wire::put8(img, layout::PAUSE_AT, seconds);
-    }
-    layout::PAUSE_AT
+    wire::put8(img, layout::PAUSE_AT, seconds)
 }
 
 pub fn flags(img: &mut [u8], x: Flags) -> usize
     ensures { Wrote img.old flags_at (enc_flags x) img.new result }
 {
-    if wire::has_room(img.len(), layout::FLAGS_AT, layout::FLAGS_WIDTH) {
-        return crate::whole::write_flags(x, img, layout::FLAGS_AT);
-    }
-    layout::FLAGS_AT
+    whole::write_flags(x, img, layout::FLAGS_AT)
 }
 
 pub fn wallet(img: &mut [u8], x: Wallet) -> usize
     ensures { Wrote img.old wallet_at (enc_wallet x) img.new result }
 {
-    if wire::has_room(img.len(), layout::WALLET_AT, layout::WALLET_WIDTH) {
-        return crate::whole::write_wallet(x, img, layout::WALLET_AT);
+    if !wire::has_room(img.len(), layout::WALLET_AT, layout::WALLET_WIDTH) {
+        return layout::WALLET_AT;
     }
-    layout::WALLET_AT
+    whole::write_wallet(x, img, layout::WALLET_AT)
 }
 
-// Bytes with their size before them, in a room of their own.
+// Bytes with their size before them, in a room of their own; that there is room for it has been seen.
 fn put_sized(img: &mut [u8], at: usize, size: u8, room: usize, held: &[u8]) -> usize
     ensures { Runs img.old at (be1 size ++ pad room held.now) img.new result }
 {
-    let a = wire::put8(img, at, size);
-    wire::put_padded(img, a, room, held)
+    let at = wire::put8(img, at, size);
+    wire::put_padded(img, at, room, held)
 }
 
 pub fn key(img: &mut [u8], key: &[u8]) -> usize
     ensures { Wrote img.old key_at (enc_key (held_key key.now)) img.new result }
 {
-    if wire::has_room(img.len(), layout::KEY_AT, layout::KEY_WIDTH) {
-        return put_sized(img, layout::KEY_AT, (key.len() % 256) as u8, Key::ROOM, key);
+    if !wire::has_room(img.len(), layout::KEY_AT, layout::KEY_WIDTH) {
+        return layout::KEY_AT;
     }
-    layout::KEY_AT
+    let size = (key.len() % 256) as u8;
+    put_sized(img, layout::KEY_AT, size, Key::ROOM, key)
 }
 
 pub fn counters(img: &mut [u8], x: Counters) -> usize
     ensures { Wrote img.old counters_at (enc_counters x) img.new result }
 {
-    if wire::has_room(img.len(), layout::COUNTERS_AT, layout::COUNTERS_WIDTH) {
-        return crate::whole::write_counters(x, img, layout::COUNTERS_AT);
+    if !wire::has_room(img.len(), layout::COUNTERS_AT, layout::COUNTERS_WIDTH) {
+        return layout::COUNTERS_AT;
     }
-    layout::COUNTERS_AT
+    whole::write_counters(x, img, layout::COUNTERS_AT)
 }
 
-fn put_block(img: &mut [u8], at: usize, held: &[u8]) -> usize
-    ensures { Runs img.old at (enc_block (held_block held.now)) img.new result }
+// The size of what is held, and its bytes, in a room of their own.
+fn block(img: &mut [u8], at: usize, held: &[u8]) -> usize
+    ensures { Wrote img.old at (enc_block (held_block held.now)) img.new result }
 {
-    let a = wire::put16(img, at, (held.len() % 65536) as u16);
-    wire::put_padded(img, a, Block::ROOM, held)
+    if !wire::has_room(img.len(), at, layout::BLOCK_WIDTH) {
+        return at;
+    }
+    let size = (held.len() % 65536) as u16;
+    let at = wire::put16(img, at, size);
+    wire::put_padded(img, at, Block::ROOM, held)
 }
 
 pub fn user(img: &mut [u8], held: &[u8]) -> usize
     ensures { Wrote img.old user_at (enc_block (held_block held.now)) img.new result }
 {
-    if wire::has_room(img.len(), layout::USER_AT, layout::BLOCK_WIDTH) {
-        return put_block(img, layout::USER_AT, held);
-    }
-    layout::USER_AT
+    block(img, layout::USER_AT, held)
 }
 
 pub fn protected(img: &mut [u8], held: &[u8]) -> usize
     ensures { Wrote img.old protected_at (enc_block (held_block held.now)) img.new result }
 {
-    if wire::has_room(img.len(), layout::PROTECTED_AT, layout::BLOCK_WIDTH) {
-        return put_block(img, layout::PROTECTED_AT, held);
-    }
-    layout::PROTECTED_AT
+    block(img, layout::PROTECTED_AT, held)
 }
 
 pub fn issuer(img: &mut [u8], held: &[u8], signature: &[u8], counter: u32) -> usize
     ensures { Wrote img.old issuer_at (enc_issuer (held_issuer held.now signature.now counter)) img.new result }
 {
-    if wire::has_room(img.len(), layout::ISSUER_AT, layout::ISSUER_WIDTH) {
-        let a = put_block(img, layout::ISSUER_AT, held);
-        let b = wire::put_padded(img, a, Last::SIGNATURE_SIZE, signature);
-        return wire::put32(img, b, counter);
+    if !wire::has_room(img.len(), layout::ISSUER_AT, layout::ISSUER_WIDTH) {
+        return layout::ISSUER_AT;
     }
-    layout::ISSUER_AT
+    let at = block(img, layout::ISSUER_AT, held);
+    let at = wire::put_padded(img, at, Last::SIGNATURE_SIZE, signature);
+    wire::put32(img, at, counter)
 }
 
 // The wait, and the bytes of the request that it holds.
 pub fn pending(img: &mut [u8], x: Wait, held: &[u8]) -> usize
     ensures { Wrote img.old pending_at (enc_pending (held_request x held.now)) img.new result }
 {
-    if wire::has_room(img.len(), layout::PENDING_AT, layout::PENDING_WIDTH) {
-        let a = crate::whole::write_wait(x, img, layout::PENDING_AT);
-        return wire::put_padded(img, a, Pending::ROOM, held);
+    if !wire::has_room(img.len(), layout::PENDING_AT, layout::PENDING_WIDTH) {
+        return layout::PENDING_AT;
     }
-    layout::PENDING_AT
+    let at = whole::write_wait(x, img, layout::PENDING_AT);
+    wire::put_padded(img, at, Pending::ROOM, held)
 }
 
 pub fn last(img: &mut [u8], signatures: &[u8]) -> usize
     ensures { Wrote img.old last_at (enc_last (held_last signatures.now)) img.new result }
 {
-    if wire::has_room(img.len(), layout::LAST_AT, layout::LAST_WIDTH) {
-        let count = (signatures.len() / Last::SIGNATURE_SIZE % 256) as u8;
-        return put_sized(img, layout::LAST_AT, count, Last::ROOM, signatures);
+    if !wire::has_room(img.len(), layout::LAST_AT, layout::LAST_WIDTH) {
+        return layout::LAST_AT;
     }
-    layout::LAST_AT
+    let count = (signatures.len() / Last::SIGNATURE_SIZE % 256) as u8;
+    put_sized(img, layout::LAST_AT, count, Last::ROOM, signatures)
 }

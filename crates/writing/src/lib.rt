@@ -15,11 +15,9 @@ use card::{Card, layout};
 pub fn write(card: Card, out: &mut [u8]) -> usize
     ensures { (Wrote out.old 0 (encode card) out.new result) × (length (encode card) ≡ image_size) }
 {
-    if wire::has_room(out.len(), 0, layout::IMAGE_SIZE) {
-        let codes = card.codes;
-        let a = whole::write_codes(codes, out, 0);
-        let face = card.face;
-        return whole::write_face(face, out, a);
+    if !wire::has_room(out.len(), 0, layout::IMAGE_SIZE) {
+        return 0;
     }
-    0
+    let at = whole::write_codes(card.codes, out, 0);
+    whole::write_face(card.face, out, at)
 }

@@ -1,4 +1,4 @@
-use borrow.Author.Tests.{eq-eqb, ne_eqb}
+use Rattle.std.proofs.Common.{eq-eqb, ne_eqb}
 use Rattle.fields.proofs.Laws.{empty_wrote}
 use Rattle.changes.specs.Carried.{kept_image}
 use Rattle.changes.proofs.keep.Goals as goal
@@ -7,6 +7,6 @@ pub returns-then-img-eq-IMAGE_SIZE : goal.returns-then-img-eq-IMAGE_SIZE
 unfolding kept_image
 returns-then-img-eq-IMAGE_SIZE c = rw (eq-eqb _ _ c.if-img-eq-IMAGE_SIZE.true) c.put_bytes.ensures
 
-pub returns : goal.returns
+pub returns-else-img-eq-IMAGE_SIZE : goal.returns-else-img-eq-IMAGE_SIZE
 unfolding kept_image
-returns c = empty_wrote (rw (ne_eqb _ _ c.if-img-eq-IMAGE_SIZE.false))
+returns-else-img-eq-IMAGE_SIZE c = empty_wrote (rw (ne_eqb _ _ c.if-img-eq-IMAGE_SIZE.false))

@@ -3,5 +3,5 @@ use Rattle.changes.proofs.stored.Goals as goal
 
 pub returns : goal.returns
 returns c = λ rest h.
-    anew_counters _ (rw (c.stored_counters.ensures, c.counters-counters.ensures) at c.counters.ensures)
+    anew_counters _ (rw (c.stored_counters.ensures, c.counters.ensures) at c.counters-2.ensures)
     (c.stored_protected.ensures _ rest (c.stored_user.ensures _ rest h))

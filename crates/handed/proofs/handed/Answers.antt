@@ -1,16 +1,33 @@
-use mathlib.Core.Path.{◌∙◌, ap, ap₂}
-use lib.ListN.{take}
-use Rattle.shelf.specs.declared.Answer.{Answer}
-use Rattle.booktext.specs.BookText.{meaning, read_answer}
-use Rattle.booktext.proofs.Laws.{meaning_within}
-use Rattle.handed.specs.Handed.{printed, handed_answer}
-use Rattle.handed.proofs.Laws.{wrote_as, handed_as}
+use Rattle.wire.proofs.Laws.{wrote_none}
+use Rattle.handed.specs.Handed.{printed, handed_parts}
+use Rattle.booktext.specs.BookText.{meaning}
+use Rattle.handed.proofs.Laws.{joined_front}
 use Rattle.handed.proofs.handed.Goals as goal
 
-pub returns : goal.returns
-unfolding read_answer
-returns c = let x = c.args in
-    let s = x.first.now in
-    let t = x.second.now in
-    let e = c.join.ensures ∙ ap₂ handed_answer c.read_text.ensures c.read_text-2.ensures in
-    wrote_as (ap (λ (r : Answer). printed r.outcome (take r.count r.notes)) e ∙ handed_as (meaning s) (meaning t) (meaning_within s) (meaning_within t)) c.put_answer.ensures
+pub slice_bounds-joined-end : goal.slice_bounds-joined-end
+slice_bounds-joined-end c = (joined_front (meaning c.args.first.now) (meaning c.args.second.now) c.in-Ok.ensures).few
+
+pub slice_bounds-put_lines-end : goal.slice_bounds-put_lines-end
+slice_bounds-put_lines-end c = (joined_front (meaning c.args.first.now) (meaning c.args.second.now) c.in-Ok.ensures).count
+
+pub returns-in-Ok : goal.returns-in-Ok
+unfolding handed_parts printed
+returns-in-Ok c = rw (← c.in-Ok.ensures.0, ← (joined_front (meaning c.args.first.now) (meaning c.args.second.now) c.in-Ok.ensures).notes) c.put_lines.ensures.0
+
+pub returns-in-Err-BadLine : goal.returns-in-Err-BadLine
+unfolding handed_parts printed
+returns-in-Err-BadLine c =
+    rw (← c.in-Err-BadLine.ensures.0, c.in-Err-BadLine.field-0-is, ← c.in-Err-BadLine.book-is, ← c.in-Err-BadLine.line-is) c.put_told.ensures
+
+pub returns-in-Err-Clash : goal.returns-in-Err-Clash
+unfolding handed_parts printed
+returns-in-Err-Clash c =
+    rw (← c.in-Err-Clash.ensures.0, c.in-Err-Clash.field-0-is, ← c.in-Err-Clash.tablet-is, ← c.in-Err-Clash.number-is) c.put_told-in-Err-Clash.ensures
+
+pub returns-in-Err-Full : goal.returns-in-Err-Full
+unfolding handed_parts printed
+returns-in-Err-Full c = rw (← c.in-Err-Full.ensures.0, c.in-Err-Full.field-0-is) c.put_full.ensures
+
+pub returns-in-Err-NoRoom : goal.returns-in-Err-NoRoom
+unfolding handed_parts printed
+returns-in-Err-NoRoom c = rw (← c.in-Err-NoRoom.ensures.0, c.in-Err-NoRoom.field-0-is) wrote_none

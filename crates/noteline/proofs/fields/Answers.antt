@@ -1,12 +1,25 @@
-use mathlib.Core.Path.{◌∙◌, ap}
-use Rattle.text.specs.Text.{number_of}
-use Rattle.text.specs.Lines.{head_to, tail_after}
+use Rattle.std.proofs.Common.{◌∙◌}
 use Rattle.noteline.specs.NoteLine.{valued, fields_of}
 use Rattle.noteline.proofs.fields.Goals as goal
 
+pub returns-in_err-number_of : goal.returns-in_err-number_of
+unfolding fields_of valued
+returns-in_err-number_of c = c.from_residual.ensures ∙ rw (← c.head_to.ensures, ← c.in_err-number_of.ensures)
+
+pub returns-in_err-number_of-2 : goal.returns-in_err-number_of-2
+unfolding fields_of valued
+returns-in_err-number_of-2 c =
+    c.from_residual-in_err-number_of-2.ensures
+    ∙ rw (← c.head_to.ensures, ← c.in_ok-number_of.ensures, ← c.tail_after-second.ensures, ← c.head_to-2.ensures, ← c.in_err-number_of-2.ensures)
+
+pub returns-in_err-number_of-3 : goal.returns-in_err-number_of-3
+unfolding fields_of valued
+returns-in_err-number_of-3 c =
+    c.from_residual-in_err-number_of-3.ensures
+    ∙ rw (← c.head_to.ensures, ← c.in_ok-number_of.ensures, ← c.tail_after-second.ensures, ← c.head_to-2.ensures, ← c.in_ok-number_of-2.ensures, ← c.tail_after-third.ensures, ← c.head_to-3.ensures, ← c.in_err-number_of-3.ensures)
+
 pub returns : goal.returns
-unfolding fields_of
-returns c = let e₁ = c.tail_after-second.ensures in
-    let e₂ = c.tail_after-third.ensures ∙ ap (tail_after 9) e₁ in
-    c.valued.ensures
-    ∙ (λ i. valued (number_of (c.head_to.ensures i)) (number_of ((c.head_to-2.ensures ∙ ap (head_to 9) e₁) i)) (number_of ((c.head_to-3.ensures ∙ ap (head_to 9) e₂) i)) ((c.tail_after.ensures ∙ ap (tail_after 9) e₂) i))
+unfolding fields_of valued
+returns c =
+    c.held.ensures
+    ∙ rw (← c.head_to.ensures, ← c.in_ok-number_of.ensures, ← c.tail_after-second.ensures, ← c.head_to-2.ensures, ← c.in_ok-number_of-2.ensures, ← c.tail_after-third.ensures, ← c.head_to-3.ensures, ← c.in_ok-number_of-3.ensures, ← c.tail_after.ensures)

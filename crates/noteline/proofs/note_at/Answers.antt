@@ -1,13 +1,11 @@
-use mathlib.Core.Path.{◌∙◌, sym, ap}
-use Rattle.noteline.specs.NoteLine.{fields_of, note_at}
+use Rattle.std.proofs.Common.{rules}
+use Rattle.noteline.specs.NoteLine.{note_at}
 use Rattle.noteline.proofs.note_at.Goals as goal
 
-pub returns-then-is_ended : goal.returns-then-is_ended
+pub returns-then-not-is_ended : goal.returns-then-not-is_ended
 unfolding note_at
-returns-then-is_ended c = let e = sym c.is_ended.ensures ∙ c.if-is_ended.true in
-    rw e (c.fields.ensures ∙ ap fields_of c.head_to.ensures)
+returns-then-not-is_ended c = search rules
 
 pub returns : goal.returns
 unfolding note_at
-returns c = let e = sym c.is_ended.ensures ∙ c.if-is_ended.false in
-    rw e c.nothing.ensures
+returns c = search rules

@@ -1,10 +1,14 @@
-use native.Mathlib.Omega.{arith}
-use Rattle.wire.proofs.Laws.{wrote_append}
+use Rattle.std.proofs.Common.{arith}
+use Rattle.wire.proofs.Laws.{wrote_append, wrote_one, wrote_more}
 use Rattle.noteline.proofs.Laws.{line_short}
 use Rattle.noteline.proofs.put_line.Goals as goal
 
 pub returns : goal.returns
-returns c = let x = c.args.x in (
-  wrote_append c.put_field-a.ensures (wrote_append c.put_field-b.ensures (wrote_append c.put_field-c.ensures c.put_text.ensures)),
-  λ g. line_short x g (omega arith) (omega arith),
+returns c = (
+  rw (← c.part.ensures)
+      (wrote_append c.put_decimal_then-a.ensures.0
+      (wrote_append c.put_decimal_then-b.ensures.0
+      (wrote_append c.put_decimal_then-c.ensures.0
+      (wrote_more c.put_bytes-d.ensures (wrote_one c.put8.ensures))))),
+  λ e. line_short c.args.note.now e (omega arith) (omega arith),
 )

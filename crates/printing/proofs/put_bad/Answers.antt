@@ -4,6 +4,6 @@ use Rattle.printing.proofs.put_bad.Goals as goal
 
 pub returns : goal.returns
 returns c = (
-  wrote_more c.put_bytes-a.ensures (wrote_more c.put8-b.ensures c.put_number.ensures.0),
-  bad_short c.args.line c.put_number.ensures.1,
+  wrote_more c.put_bytes-a.ensures (wrote_more c.put8-b.ensures c.put_decimal_then.ensures.0),
+  bad_short c.args.line c.put_decimal_then.ensures.1,
 )

@@ -1,42 +1,24 @@
-use Rattle.sheet.specs.Sheet.{sheet_lines, row_of, good_line, bad_from, first_bad}
-use Rattle.sheet.proofs.Laws.{from_start, bad_here, bad_on}
-use Rattle.text.specs.Lines.{next_line, start_of}
-use mathlib.Core.Path.{◌≡◌, refl, sym, ap, ◌∙◌}
-use Prim.Native.Nat.{ℕ, suc, ◌+◌, ◌-◌, ◌≤◌}
+use Rattle.std.proofs.Common.{◌≡◌, arith, refl, ne_eqb}
+use Rattle.std.proofs.lemmas.Grind.{common_steps}
+use Rattle.text.specs.Lines.{start_of, from_line}
 use Rattle.text.proofs.LineLaws.{start_next}
-use native.Mathlib.Omega.{arith}
+use Rattle.sheet.specs.Sheet.{first_bad, some_line, bad_from}
+use Rattle.sheet.proofs.Laws.{bad_here, bad_on}
 use Rattle.sheet.proofs.first_bad.Goals as goal
 
 pub loop-line-init : goal.loop-line-init
 unfolding first_bad start_of
-loop-line-init c = (omega arith, refl, refl)
-
-pub after_required-bad-requires : goal.after_required-bad-requires
-after_required-bad-requires c = let l = c.loop-line in
-    let s = c.args.sheet.now in
-    let z : l.good + 1 ≡ suc sheet_lines = omega arith in
-    l.invariant.1 ∙ ap (λ (n : ℕ). start_of n s) z
+loop-line-init c = (omega arith, omega arith, refl, refl)
 
 pub loop-line-preserved : goal.loop-line-preserved
-loop-line-preserved c = let l = c.loop-line in
-    let s = c.args.sheet.now in
-    let h : l.good + 1 ≤ sheet_lines = omega arith in
-    let r = c.good_line.ensures ∙ ap (good_line (row_of (l.good + 1))) (c.rest.ensures ∙ from_start (l.good + 1) l.at s l.invariant.1) in
-    let e = sym r ∙ c.if-not-good_line.false in
-    let n = c.next_line-at.ensures ∙ ap (next_line s) l.invariant.1 ∙ sym (start_next (l.good + 1) s (omega arith)) in
-    (omega arith, n, l.invariant.2 ∙ bad_on (l.good + 1) s (omega arith) h e)
+unfolding from_line
+loop-line-preserved c = (omega arith, omega arith, grind (arith, common_steps, start_next), grind (arith, common_steps, bad_on))
 
 pub returns-then-line-gt-LINES : goal.returns-then-line-gt-LINES
 unfolding bad_from
-returns-then-line-gt-LINES c = let l = c.loop-line in
-    let s = c.args.sheet.now in
-    let z : l.good + 1 ≡ suc sheet_lines = omega arith in
-    c.after_required-bad.ensures ∙ sym (l.invariant.2 ∙ ap (λ (n : ℕ). bad_from (suc sheet_lines - n) n s) z)
+returns-then-line-gt-LINES c = grind (arith, common_steps)
 
 pub returns-then-not-good_line : goal.returns-then-not-good_line
-returns-then-not-good_line c = let l = c.loop-line in
-    let s = c.args.sheet.now in
-    let h : l.good + 1 ≤ sheet_lines = omega arith in
-    let r = c.good_line.ensures ∙ ap (good_line (row_of (l.good + 1))) (c.rest.ensures ∙ from_start (l.good + 1) l.at s l.invariant.1) in
-    let e = sym r ∙ c.if-not-good_line.true in
-    sym (l.invariant.2 ∙ bad_here (l.good + 1) s (omega arith) h e)
+unfolding some_line from_line
+returns-then-not-good_line c = let e : first_bad c.args.sheet.now ≡ c.loop-line.line = grind (arith, common_steps, bad_here) in
+    rw (e, ne_eqb c.loop-line.line 0 (λ z. omega arith))

@@ -1,11 +1,10 @@
-use Rattle.sheet.specs.Sheet.{sheet_lines, bad_from, first_bad}
+use Rattle.std.proofs.Common.{◌≡◌, ◌-◌, ◌≤◌, suc}
 use Rattle.text.specs.Lines.{start_of}
-use mathlib.Core.Path.{◌≡◌}
-use Prim.Native.Nat.{suc, ◌+◌, ◌-◌, ◌≤◌}
+use Rattle.sheet.specs.Sheet.{sheet_lines, bad_from, first_bad}
 use Rattle.sheet.proofs.first_bad.Given as goal
 
 abbrev pub invariant-loop-line : goal.invariant-loop-line
-invariant-loop-line l = (l.good ≤ sheet_lines) × (l.at ≡ start_of (l.good + 1) l.sheet) × (first_bad l.sheet ≡ bad_from (suc sheet_lines - (l.good + 1)) (l.good + 1) l.sheet)
+invariant-loop-line l = (1 ≤ l.line) × (l.line ≤ suc sheet_lines) × (l.at ≡ start_of l.line l.sheet) × (first_bad l.sheet ≡ bad_from (suc sheet_lines - l.line) l.line l.sheet)
 
 abbrev pub decreases-loop-line : goal.decreases-loop-line
-decreases-loop-line l = sheet_lines - l.good
+decreases-loop-line l = suc sheet_lines - l.line

@@ -1,32 +1,22 @@
-use mathlib.Core.Path.{◌≡◌, sym, ◌∙◌, ap, subst}
-use Prim.Native.Nat.{ℕ, ◌≤◌}
-use native.Mathlib.Omega.{arith}
-use lib.ListN.{length}
-use borrow.Author.Tests.{lt-ltb, le-ltb, eq-eqb, ne_eqb}
-use Rattle.shelf.specs.Shelf.{first_bad, bad_of}
-use Rattle.shelf.proofs.Laws.{least_right, take_cap}
+use Rattle.std.proofs.Common.{refl, sym, ◌∙◌, arith}
+use Rattle.notes.specs.Notes.{blank}
+use Rattle.shelf.specs.Shelf.{first_bad}
+use Rattle.shelf.proofs.Laws.{bad_here, bad_on, bad_full, bad_none}
 use Rattle.shelf.proofs.first_bad.Goals as goal
+use Rattle.shelf.proofs.first_bad.Goals.{then-i-eq-MOST-via-then-i-eq-MOST, then-i-eq-MOST-via-else-i-eq-MOST+then-not-follows}
 
-pub bad_among-bad-requires : goal.bad_among-bad-requires
-bad_among-bad-requires c = subst (λ (k : ℕ). k ≤ 256) (sym c.lesser.ensures) (least_right _ 256)
+pub loop-i-init : goal.loop-i-init
+unfolding first_bad blank
+loop-i-init c = (omega arith, refl)
 
-pub returns-then-n-gt-MOST : goal.returns-then-n-gt-MOST
-unfolding bad_of
-returns-then-n-gt-MOST c = let x = c.args in
-    let la : length x.a ≡ 256 = omega arith in
-    let e = c.bad_among-bad.ensures ∙ ap first_bad (take_cap x.n _ x.a c.lesser.ensures la) in
-    simp (← e, eq-eqb _ _ c.if-bad-eq0.true, lt-ltb _ _ c.if-n-gt-MOST.true)
+pub returns-then-i-eq-MOST : goal.returns-then-i-eq-MOST
+returns-then-i-eq-MOST c = sym (c.loop-i.invariant.1 ∙ elim c.then-i-eq-MOST.branch [
+  | then-i-eq-MOST-via-then-i-eq-MOST w ↦ bad_full _ _ _ c.loop-i-test.true w.if-i-eq-MOST.true
+  | then-i-eq-MOST-via-else-i-eq-MOST+then-not-follows w ↦ bad_here _ _ _ c.loop-i-test.true (omega arith) (sym w.follows.ensures ∙ w.if-not-follows.true)
+])
 
-pub returns-else-n-gt-MOST : goal.returns-else-n-gt-MOST
-unfolding bad_of
-returns-else-n-gt-MOST c = let x = c.args in
-    let la : length x.a ≡ 256 = omega arith in
-    let e = c.bad_among-bad.ensures ∙ ap first_bad (take_cap x.n _ x.a c.lesser.ensures la) in
-    simp (← e, eq-eqb _ _ c.if-bad-eq0.true, le-ltb _ _ c.if-n-gt-MOST.false) c.if-bad-eq0.true
+pub loop-i-preserved : goal.loop-i-preserved
+loop-i-preserved c = (omega arith, c.loop-i.invariant.1 ∙ bad_on _ _ _ c.loop-i-test.true (omega arith) (sym c.follows.ensures ∙ c.if-not-follows.false))
 
-pub returns-else-bad-eq0 : goal.returns-else-bad-eq0
-unfolding bad_of
-returns-else-bad-eq0 c = let x = c.args in
-    let la : length x.a ≡ 256 = omega arith in
-    let e = c.bad_among-bad.ensures ∙ ap first_bad (take_cap x.n _ x.a c.lesser.ensures la) in
-    simp (← e, ne_eqb _ _ c.if-bad-eq0.false)
+pub returns : goal.returns
+returns c = sym (c.loop-i.invariant.1 ∙ bad_none _ _ _ (omega arith))

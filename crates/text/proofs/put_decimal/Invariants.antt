@@ -1,12 +1,10 @@
-use Prim.Native.Nat.{◌+◌, ◌*◌, ◌^◌, ◌≤◌, ◌<◌}
-use mathlib.Core.Path.{◌≡◌}
-use mathlib.Core.List.{◌++◌}
-use lib.ListN.{length, drop}
+use Rattle.std.proofs.Common.{◌≡◌, ◌≤◌, ◌++◌, length}
+use lib.ListN.{drop}
 use Rattle.text.specs.Text.{decimal_of}
 use Rattle.text.proofs.put_decimal.Given as goal
 
-abbrev pub invariant-loop-m : goal.invariant-loop-m
-invariant-loop-m l = (l.i ≤ 9) × (length l.digits ≡ 10) × (l.m < 10 * 10 ^ l.i) × (decimal_of l.n ≡ decimal_of l.m ++ drop (l.i + 1) l.digits)
+abbrev pub invariant-loop-left : goal.invariant-loop-left
+invariant-loop-left l = (l.first ≤ 10) × (length l.digits ≡ 10) × (decimal_of l.n ≡ decimal_of l.left ++ drop l.first l.digits)
 
-abbrev pub decreases-loop-m : goal.decreases-loop-m
-decreases-loop-m l = l.i
+abbrev pub decreases-loop-left : goal.decreases-loop-left
+decreases-loop-left l = l.first

@@ -1,21 +1,25 @@
-use Rattle.wire.specs.Wire.{room, fit, placed}
-use borrow.Author.Tests.{leb-true}
-use mathlib.Core.Path.{sym, ◌∙◌}
-use Rattle.text.proofs.Laws.{length_unhex}
+use Rattle.std.proofs.Common.{arith, add-one, ◌∙◌, sym}
+use lib.Seq.{paste-suc}
+use Rattle.text.specs.Text.{unhex}
+use Rattle.text.proofs.Laws.{length_unhex, get_d_unhex}
+use Rattle.wire.proofs.Laws.{room_true, room_false, tested, refused, pasted}
 use Rattle.text.proofs.unhex.Goals as goal
 
-pub spell-requires : goal.spell-requires
-unfolding room
-spell-requires c = leb-true _ _ (sym c.has_room.ensures ∙ c.if-has_room.true)
+pub returns-then-not-has_room : goal.returns-then-not-has_room
+returns-then-not-has_room c = let x = c.args in
+    refused (omega (arith, length_unhex x.s.now, room_false _ _ _ (sym c.has_room.ensures ∙ c.if-not-has_room.true)))
 
-pub returns-then-has_room : goal.returns-then-has_room
-unfolding fit placed
-returns-then-has_room c = let s = c.args.s.now in
-    let e = sym c.has_room.ensures ∙ c.if-has_room.true in
-    record { bytes = rw (length_unhex s, e) c.spell.ensures.0; next = rw (length_unhex s, e) (rw length_unhex at c.spell.ensures.1) }
+pub loop-i-preserved : goal.loop-i-preserved
+loop-i-preserved c = let x = c.args in
+    let s = x.s.now in
+    let n = length_unhex s in
+    let h = room_true _ _ _ (sym c.has_room.ensures ∙ c.if-not-has_room.false) in
+    let i = c.loop-i.i in
+    rw (c.loop-i.invariant, c.pair_value.ensures, ← get_d_unhex s i (omega arith), add-one)
+    (paste-suc x.out.now x.at (unhex s) i 0 (omega arith) (omega arith))
 
 pub returns : goal.returns
-unfolding fit placed
-returns c = let s = c.args.s.now in
-    let e = sym c.has_room.ensures ∙ c.if-has_room.false in
-    record { bytes = sym (rw (length_unhex s, e)); next = sym (rw (length_unhex s, e)) }
+returns c = let x = c.args in
+    let n = length_unhex x.s.now in
+    let h = room_true _ _ _ (sym c.has_room.ensures ∙ c.if-not-has_room.false) in
+    tested (omega arith) (λ _. record { bytes = c.loop-i.invariant ∙ pasted _ _ _ _ (omega arith); next = omega arith })

@@ -4,7 +4,6 @@ use mathlib.Core.Path.{ap, ◌∙◌}
 use lib.ListN.{length}
 use Rattle.wire.specs.Wire.{part, put}
 use Rattle.wire.proofs.Parts.{there_and_back}
-use borrow.Author.Rules.{rules}
 use Rattle.wire.proofs.copy.Goals as goal
 
 pub copy_each-requires-then-v-le-SPAN : goal.copy_each-requires-then-v-le-SPAN

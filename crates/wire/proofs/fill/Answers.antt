@@ -2,7 +2,6 @@ use mathlib.Core.Path.{ap, ap₂, sym, ◌∙◌}
 use Prim.Native.Nat.{◌-◌, ◌≤◌, ◌<◌}
 use native.Mathlib.Omega.{arith}
 use lib.ListN.{length, replicate}
-use borrow.Author.Rules.{rules}
 use Rattle.wire.specs.Wire.{put}
 use Rattle.wire.proofs.Laws.{put_pad, pad_none}
 use Rattle.wire.proofs.fill.Goals as goal

@@ -1,5 +1,4 @@
 use mathlib.Core.Path.{sym, ◌∙◌}
-use borrow.Author.Rules.{rules}
 use borrow.Author.Tests.{leb-true}
 use Rattle.wire.specs.Wire.{room, fit, placed}
 use Rattle.wire.proofs.put_bytes.Goals as goal

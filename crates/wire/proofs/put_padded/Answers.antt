@@ -1,6 +1,5 @@
 use mathlib.Core.Path.{sym, ◌∙◌}
 use Rattle.wire.proofs.Parts.{length_pad}
-use borrow.Author.Rules.{rules}
 use borrow.Author.Tests.{leb-true}
 use Rattle.wire.specs.Wire.{room, fit, placed}
 use Rattle.wire.proofs.put_padded.Goals as goal

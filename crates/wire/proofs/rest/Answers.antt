@@ -4,7 +4,6 @@ use lib.Seq.{take_all}
 use mathlib.Core.Path.{sym}
 use native.Mathlib.Nat.{le_of_lt}
 use native.Mathlib.Omega.{arith}
-use borrow.Author.Rules.{rules}
 use Rattle.wire.proofs.rest.Goals as goal
 
 pub returns-then-at-s : goal.returns-then-at-s

@@ -1,9 +1,5 @@
-use mathlib.Core.Path.{◌≡◌, sym, ◌∙◌}
-use mathlib.Core.Bool.{◌&&◌}
-use Prim.Native.Nat.{◌-◌, ◌≤◌}
-use native.Mathlib.Omega.{arith}
-use lib.ListN.{length, drop, drop_of_length-le}
-use lib.Dec.{eqb}
+use Rattle.std.proofs.Common.{◌≤◌, ◌∙◌, sym, arith, length}
+use lib.ListN.{drop_of_length-le}
 use Rattle.wire.specs.Wire.{all_zero}
 use Rattle.wire.proofs.Laws.{gather, gathered}
 use Rattle.wire.proofs.zero_from.Goals as goal
@@ -12,13 +8,11 @@ pub returns-then-s-at : goal.returns-then-s-at
 unfolding all_zero
 returns-then-s-at c = let x = c.args in let h : length x.s.now ≤ x.at = omega arith in rw (drop_of_length-le x.s.now h)
 
-pub loop-i-init : goal.loop-i-init
-loop-i-init c = c.quarters-any.ensures
+pub loop-b-init : goal.loop-b-init
+loop-b-init c = rw c.rest-b-items.ensures c.quarters-any.ensures
 
-pub loop-i-preserved : goal.loop-i-preserved
-loop-i-preserved c = let x = c.args in
-    c.loop-i.invariant ∙ gather x.s.now c.loop-i.any c.loop-i.i (omega arith)
+pub loop-b-preserved : goal.loop-b-preserved
+loop-b-preserved c = c.loop-b.invariant ∙ gather _ c.loop-b.any c.loop-b.b-index (omega arith)
 
 pub returns : goal.returns
-returns c = let x = c.args in
-    sym (c.loop-i.invariant ∙ gathered x.s.now c.loop-i.any c.loop-i.i (omega arith))
+returns c = sym (c.loop-b.invariant ∙ gathered _ c.loop-b.any c.loop-b.b-index (omega arith))

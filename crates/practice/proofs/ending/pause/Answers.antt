@@ -11,7 +11,7 @@ use Rattle.practice.proofs.ending.pause.Goals as goal
 
 pub returns : goal.returns
 returns c = let x = c.args in
-    let m = decode x.img.now in
+    let m = decode x.img.bytes.now in
     let q = x.request.now in
     let e = c.holding.ensures ∙ ap (held_for x.seconds (u16 (length q))) c.wait-wait.ensures in
     pauses x.seconds m q x.response.now x.next.now c.told.ensures c.put_short-at.ensures c.put16.ensures c.requires.0

@@ -1,11 +1,9 @@
-use Rattle.card.specs.Layout.{counters_width}
-use Rattle.writing.proofs.Laws.{guarded, barred}
 use Rattle.cards.proofs.Shape.{long_counters}
+use Rattle.writing.proofs.Laws.{guarded, barred}
 use Rattle.writing.proofs.anew.counters.Goals as goal
 
-pub returns-then-has_room : goal.returns-then-has_room
-returns-then-has_room c = guarded counters_width c.has_room.ensures c.if-has_room.true
-    c.write_counters.ensures.1 c.write_counters.ensures.0
+pub returns-then-not-has_room : goal.returns-then-not-has_room
+returns-then-not-has_room c = barred (long_counters c.args.x) c.if-not-has_room.ensures
 
 pub returns : goal.returns
-returns c = barred counters_width c.has_room.ensures c.if-has_room.false (long_counters c.args.x)
+returns c = guarded (long_counters c.args.x) c.if-not-has_room.ensures c.write_counters.ensures

@@ -1,12 +1,11 @@
-use Rattle.card.specs.Layout.{key_width}
 use Rattle.card.specs.Image.{enc_key}
 use Rattle.cards.proofs.Shape.{held_key_wide}
 use Rattle.writing.proofs.Laws.{guarded, barred}
 use Rattle.writing.proofs.anew.key.Goals as goal
 
-pub returns-then-has_room : goal.returns-then-has_room
-unfolding enc_key
-returns-then-has_room c = guarded key_width c.has_room.ensures c.if-has_room.true (held_key_wide c.args.key.now) c.put_sized.ensures
+pub returns-then-not-has_room : goal.returns-then-not-has_room
+returns-then-not-has_room c = barred (held_key_wide c.args.key.now) c.if-not-has_room.ensures
 
 pub returns : goal.returns
-returns c = barred key_width c.has_room.ensures c.if-has_room.false (held_key_wide c.args.key.now)
+unfolding enc_key
+returns c = guarded (held_key_wide c.args.key.now) c.if-not-has_room.ensures c.put_sized.ensures

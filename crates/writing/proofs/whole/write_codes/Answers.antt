@@ -1,7 +1,7 @@
-use Rattle.writing.proofs.Laws.{array, plus}
+use Rattle.wire.proofs.Laws.{runs, then}
 use Rattle.card.specs.Image.{enc_codes}
 use Rattle.writing.proofs.whole.write_codes.Goals as goal
 
 pub returns : goal.returns
 unfolding enc_codes
-returns c = plus (array c.give32-a.ensures) (array c.give32.ensures)
+returns c = then (runs c.give-at.ensures.0) (runs c.give.ensures.0)

@@ -1,7 +1,7 @@
-use Rattle.writing.proofs.Laws.{plus}
+use Rattle.wire.proofs.Laws.{then}
 use Rattle.card.specs.Image.{enc_face}
 use Rattle.writing.proofs.whole.write_face.Goals as goal
 
 pub returns : goal.returns
 unfolding enc_face
-returns c = plus (plus (plus c.write_front-a.ensures c.write_held-b.ensures) c.write_pending-c.ensures) c.write_last.ensures
+returns c = then (then (then c.write_front-at.ensures c.write_held-at.ensures) c.write_pending-at.ensures) c.write_last.ensures

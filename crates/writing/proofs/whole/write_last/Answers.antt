@@ -1,7 +1,7 @@
-use Rattle.writing.proofs.Laws.{number, array, plus}
+use Rattle.wire.proofs.Laws.{runs, then}
 use Rattle.card.specs.Image.{enc_last}
 use Rattle.writing.proofs.whole.write_last.Goals as goal
 
 pub returns : goal.returns
 unfolding enc_last
-returns c = plus (number c.put8-a.ensures) (array c.give640.ensures)
+returns c = then (runs c.put8-at.ensures) (runs c.give.ensures.0)

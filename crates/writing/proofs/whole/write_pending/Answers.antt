@@ -1,7 +1,7 @@
-use Rattle.writing.proofs.Laws.{array, plus}
+use Rattle.wire.proofs.Laws.{runs, then}
 use Rattle.card.specs.Image.{enc_pending}
 use Rattle.writing.proofs.whole.write_pending.Goals as goal
 
 pub returns : goal.returns
 unfolding enc_pending
-returns c = plus c.write_wait-a.ensures (array c.give1024.ensures)
+returns c = then c.write_wait-at.ensures (runs c.give.ensures.0)

@@ -1,7 +1,7 @@
-use Rattle.writing.proofs.Laws.{number, plus}
+use Rattle.wire.proofs.Laws.{runs, then}
 use Rattle.card.specs.Image.{enc_wait}
 use Rattle.writing.proofs.whole.write_wait.Goals as goal
 
 pub returns : goal.returns
 unfolding enc_wait
-returns c = plus (plus (number c.put8-a.ensures) (number c.put8-b.ensures)) (number c.put16.ensures)
+returns c = then (then (runs c.put8-at.ensures) (runs c.put8-at-2.ensures)) (runs c.put16.ensures)

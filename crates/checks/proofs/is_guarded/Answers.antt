@@ -1,4 +1,0 @@
-use Rattle.checks.proofs.is_guarded.Goals as goal
-
-pub returns : goal.returns
-returns c = rw c.flags-flags.ensures

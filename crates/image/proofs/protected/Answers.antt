@@ -1,6 +1,0 @@
-use Rattle.card.specs.Image.{decode}
-use Rattle.image.proofs.protected.Goals as goal
-
-pub returns : goal.returns
-unfolding decode
-returns c = c.content.ensures

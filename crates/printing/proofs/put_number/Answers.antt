@@ -1,7 +1,0 @@
-use native.Mathlib.Omega.{arith}
-use Rattle.printing.proofs.Laws.{ten_digits}
-use Rattle.wire.proofs.Laws.{wrote_one, wrote_more}
-use Rattle.printing.proofs.put_number.Goals as goal
-
-pub returns : goal.returns
-returns c = (wrote_more c.put_decimal-a.ensures (wrote_one c.put8.ensures), ten_digits c.args.n (omega (arith, c.ranges.n)))

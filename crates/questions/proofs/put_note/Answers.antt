@@ -1,8 +1,0 @@
-use Rattle.std.proofs.Common.{◌∙◌}
-use Rattle.questions.proofs.Laws.{ask, four_length}
-use Rattle.wire.proofs.Laws.{wrote_one, wrote_more}
-use Rattle.questions.proofs.put_note.Goals as goal
-
-pub returns : goal.returns
-returns c = ask _ _ _ _ _ (c.in_two.ensures ∙ four_length _ _ _ _) c.put_head-a.ensures
-    (wrote_more c.put_bytes-b.ensures (wrote_more c.put_bytes-c.ensures (wrote_more c.put_bytes-d.ensures (wrote_one c.put_bytes.ensures))))

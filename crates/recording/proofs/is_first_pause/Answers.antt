@@ -1,4 +1,0 @@
-use Rattle.recording.proofs.is_first_pause.Goals as goal
-
-pub returns : goal.returns
-returns c = cc

@@ -1,5 +1,0 @@
-use Rattle.wire.proofs.Laws.{or_zero}
-use Rattle.sent.proofs.none_twice.Goals as goal
-
-pub returns : goal.returns
-returns c = simp or_zero

@@ -1,7 +1,0 @@
-use Rattle.wire.proofs.Laws.{runs, then}
-use Rattle.card.specs.Image.{enc_block}
-use Rattle.writing.proofs.anew.put_block.Goals as goal
-
-pub returns : goal.returns
-unfolding enc_block
-returns c = then (runs c.put16-a.ensures) (runs c.put_padded.ensures)
