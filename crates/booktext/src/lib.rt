@@ -31,6 +31,7 @@ fn take_notes(text: &[u8], number: u8, notes: &mut [Note; MOST]) -> Result<usize
     let mut rest = text;
     let mut last = BLANK;
     let mut n = 0;
+    // What is left of the text is what the definition goes by.
     while !rest.is_empty() {
         let bad_line = Refusal::BadLine {
             book: number,

@@ -49,6 +49,7 @@ const ALWAYS: Needs = Needs {
 };
 
 // CHECKS 7 to 10: what no request changes.
+// This and the other columns are the paper's table read downwards: commands that share a value share an arm, and none is `_`.
 pub fn needs(cmd: Command) -> Needs
     ensures { result ≡ (row cmd).needs }
 {

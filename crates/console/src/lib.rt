@@ -20,9 +20,8 @@ pub fn read_full<R: Read>(from: &mut R, buf: &mut [u8]) -> usize
     let mut done = 0;
     while done < buf.len() {
         match from.read(&mut buf[done..]) {
-            Ok(0) => return done,
+            Ok(0) | Err(_) => break,
             Ok(n) => done += n,
-            Err(_) => return done,
         }
     }
     done
@@ -166,7 +165,7 @@ mod tests {
             let Some((first, others)) = self.0.split_first() else {
                 return Err(io::Error::other("broken"));
             };
-            if buf.len() == 0 {
+            if buf.is_empty() {
                 return Ok(0);
             }
             buf[0] = *first;

@@ -53,6 +53,7 @@ fn over_own(cmd: Command, img: &[u8], sent: &Sent) -> bool
 }
 
 // A refusal by this check is over a code that counts as wrong.
+// The check by the paper's number.
 fn over_code(check: u8, cmd: Command, img: &[u8], sent: &Sent) -> bool
     ensures { result ≡ over_code (row cmd) (matched (decode img.now).codes (view sent.now))
         (view sent.now) check }

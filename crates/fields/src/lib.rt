@@ -20,6 +20,7 @@ pub enum Step {
 }
 
 // How often a tag stands in a payload; Twice is two times or more.
+// Three, as a step.
 #[derive(Clone, Copy)]
 pub enum Times {
     Absent,
@@ -60,6 +61,7 @@ pub fn step_at(s: &[u8], at: usize) -> Step
 }
 
 // Where the first value with the tag stands, its start and its length, by a walk of its own.
+// A walk, here and in stands: each step goes on where the field ends. As an iterator it would call std, into which `computed` cannot look.
 pub fn find(s: &[u8], tag: u8) -> Option<(usize, usize)>
     ensures { result ≡ first_in tag (rest_from s.now 0) }
 {

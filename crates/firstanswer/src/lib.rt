@@ -21,6 +21,7 @@ pub const SHEET_ROOM: usize = 4096;
 pub const LINE_ROOM: usize = 2 * manual::RESPONSE_ROOM + 1;
 
 // INS of READ_CARD.
+// The byte itself, as it is sent.
 const READ_CARD: u8 = 0xF2;
 
 // The request's one field, with its tag and length, and the whole request, with CLA, INS, P1, P2 and Lc.

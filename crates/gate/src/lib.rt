@@ -162,6 +162,7 @@ fn own(cmd: Command, img: &[u8], sent: &Sent) -> Result<(), Refusal>
 }
 
 // Checks 4 to 12 of a command, which ask and settle share: of its request, and of its payload, walked.
+// Each refusal is handed on by hand: `?` is made of functions of std, into which `computed` cannot look.
 pub fn judge(cmd: Command, img: &[u8], q: &[u8], sent: &Sent) -> Result<Command, Refusal>
     ensures { result ≡ later_of cmd sent.now.whole (decode img.now) (view sent.now) q.now }
 {

@@ -11,6 +11,7 @@ ghost use Rattle.card.specs.Valid.{is_card};
 
 use card::{Block, Codes, Counters, Fixed, Flags, Key, Last, Pending, Wait, Wallet, layout};
 
+// A reader a value: what they have in common is `wire`'s; a law over any group would hide the layout.
 pub fn pin1(img: &[u8]) -> &[u8]
     ensures { result.now ≡ (decode img.now).codes.pin1 }
 {

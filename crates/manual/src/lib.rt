@@ -54,6 +54,7 @@ impl TryFrom<u8> for Command {
 }
 
 // What SIGN asks for: new signatures, of a hash array of so many bytes, or the last ones again.
+// Again is a request of its own, and not the absence of one: no Option.
 #[derive(Clone, Copy)]
 pub enum Signing {
     New(usize),
@@ -61,6 +62,7 @@ pub enum Signing {
 }
 
 // The first check that fails, by its number in 01, and its status word.
+// Both go into the numbers of an Outcome.
 #[derive(Clone, Copy)]
 pub struct Refusal {
     pub check: u8,
@@ -69,6 +71,7 @@ pub struct Refusal {
 
 // What the delay makes of a request (02 Ask 7): refused by checks 1 to 10, over a code that counts as wrong or not; it waits, so many
 // seconds being left; or it goes on.
+// Three cases.
 #[derive(Clone, Copy)]
 pub enum Pace {
     Refused(bool),
@@ -78,6 +81,7 @@ pub enum Pace {
 
 // The part of a command's row that no request changes: whether check 7 is made, whether it runs on a card that is not activated,
 // the statuses that allow it, and whether it asks for the CVC where that is used.
+// Six flags, each a column of the paper's table.
 #[derive(Clone, Copy)]
 pub struct Needs {
     pub cid: bool,
@@ -89,6 +93,7 @@ pub struct Needs {
 }
 
 // What a call returns: the number of 01's table, the reason (the number of the check that refuses, 0 where none does), the status word, the length written.
+// C has this struct, so that its numbers are numbers.
 #[repr(C)]
 #[derive(Drop)]
 pub struct Outcome {

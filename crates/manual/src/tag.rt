@@ -1,4 +1,5 @@
 // The tags, by the paper's names. The same table is in specs/Tags.antt.
+// Bytes, and no enum: a payload may have any byte for a tag.
 pub const CID: u8 = 0x01;
 
 pub const STATUS: u8 = 0x02;

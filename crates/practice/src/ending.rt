@@ -58,6 +58,7 @@ pub fn word_alone(v: Result<Command, Refusal>, response: &mut [u8]) -> Outcome
 }
 
 // The image as it was, but for this wait and the request that it holds.
+// It takes the bytes: of a slice that is an argument the prover knows that they are bytes, of one inside a `Whole` it does not.
 fn keep(img: &[u8], wait: Wait, held: &[u8], next: &mut [u8])
     requires { (image_room ≤ length next.old) × (length img.now ≡ image_size) }
     ensures { next.new ≡ encode (waiting (held_request wait held.now) (decode img.now)) ++ drop image_size next.old }

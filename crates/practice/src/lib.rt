@@ -44,6 +44,7 @@ fn is_draw(draw: &[u8]) -> bool
 }
 
 // The fields of the card after, and the status word.
+// Here and below the rooms are asked of the caller: a struct that lent both buffers would have to say in each promise that it still lends the same.
 fn respond(
     cmd: Command,
     img: &[u8],

@@ -1,5 +1,5 @@
 // A reader that holds the payload and its place, 01 "Requests and fields": a thin form of the field walk on a slice and a number.
-// Whoever walks a payload calls `step`.
+// The walk of `sent` calls `step`.
 #![tactic(auto)]
 
 ghost use Rattle.std.specs.Prelude.{◌≡◌};

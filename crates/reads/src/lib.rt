@@ -13,6 +13,7 @@ use manual::{Command, tag};
 use sent::Sent;
 
 // The tags of the command's entry.
+// A table of the paper, a command an arm and never `_`, so that the compiler names a new command; so are the columns of the crates above.
 fn entry(cmd: Command) -> &'static [u8]
     ensures { result.now ≡ (row cmd).reads }
 {

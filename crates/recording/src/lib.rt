@@ -31,6 +31,7 @@ pub const LINE_ROOM: usize = 2 * manual::RESPONSE_ROOM + 256;
 const FIELD_ROOM: usize = tapline::LONGEST / 2;
 
 // What lasts from line to line: the taps so far and their sums, whether the sheet had a pause, and whether the play has ended.
+// On an ended play a call has to do nothing, so that the flag is no type.
 #[derive(Clone, Copy)]
 pub struct Play {
     pub taps: u16,
@@ -40,6 +41,7 @@ pub struct Play {
 }
 
 // The play after a call, and the length of what the call printed.
+// The player has the same of itself: a field that is a play, or a player, by name.
 #[derive(Drop)]
 pub struct Turn {
     pub play: Play,
@@ -47,6 +49,7 @@ pub struct Turn {
 }
 
 // Whether an image of that length, and room of that length to print into, will do.
+// Image and room are asked of the caller, as in `practice`: both are lent to be changed.
 #[tactic(auto, unfolding(crate::specs::Step::room_for))]
 pub fn has_place(img: usize, out: usize) -> bool
     ensures { result ≡ room_for img out }
@@ -202,18 +205,18 @@ fn pause(play: Play, line: &[u8], img: &mut [u8]) -> Turn
     })
 }
 
-#[tactic(auto, unfolding(crate::specs::Step::started))]
+#[tactic(auto, unfolding(crate::specs::Step::started, sheet::specs::Sheet::some_line))]
 fn fresh_card(sheet: &[u8], img: &mut [u8], out: &mut [u8]) -> Turn
     requires { (length img.old ≡ image_size) × (line_room ≤ length out.old) }
     ensures { left_by result img.new out.new ≡ wrote (started sheet.now img.old) out.old }
 {
-    let mut fresh = [0u8; layout::IMAGE_ROOM];
-    let bad = personalise::personalise(sheet, &mut fresh);
-    if bad == 0 {
-        renew(0, &fresh, img);
-        return quiet(play_with(sheet::has_pause(sheet)));
+    match sheet::first_bad(sheet) {
+        Some(line) => stop(new_play(), line, out),
+        None => {
+            writing::write(personalise::card_of(sheet), img);
+            quiet(play_with(sheet::has_pause(sheet)))
+        }
     }
-    stop(new_play(), bad, out)
 }
 
 // The whole sheet: a fresh card, or the number of its first bad line.
@@ -223,9 +226,10 @@ pub fn begin(sheet: &[u8], img: &mut [u8], out: &mut [u8]) -> Turn
         ≡ leaves (ended_at start) img.old out.old (started sheet.now img.old) }
 {
     if has_place(img.len(), out.len()) {
-        return fresh_card(sheet, img, out);
+        fresh_card(sheet, img, out)
+    } else {
+        quiet(end(new_play()))
     }
-    quiet(end(new_play()))
 }
 
 #[tactic(auto, unfolding(crate::specs::Step::stepped, tapline::specs::Line::recorded), using(crate::proofs::Laws::next_tap))]
@@ -234,12 +238,12 @@ fn play_line(play: Play, line: &[u8], img: &mut [u8], out: &mut [u8]) -> Turn
     ensures { left_by result img.new out.new ≡ wrote (stepped play img.old line.now) out.old }
 {
     if is_first_pause(play, line) {
-        return pause(play, line, img);
+        pause(play, line, img)
+    } else if is_next(play.taps, line) {
+        tap(play, lines::head_to(line, lines::LINE_FEED), img, out)
+    } else {
+        stop(play, sheet::line_after(play.paused, play.taps), out)
     }
-    if is_next(play.taps, line) {
-        return tap(play, lines::head_to(line, lines::LINE_FEED), img, out);
-    }
-    stop(play, sheet::line_after(play.paused, play.taps), out)
 }
 
 // One more line, with its line feed.
@@ -249,9 +253,10 @@ pub fn step(play: Play, line: &[u8], img: &mut [u8], out: &mut [u8]) -> Turn
         ≡ leaves play img.old out.old (stepped play img.old line.now) }
 {
     if goes_on(play.ended, img.len(), out.len()) {
-        return play_line(play, line, img, out);
+        play_line(play, line, img, out)
+    } else {
+        quiet(play)
     }
-    quiet(play)
 }
 
 fn print_sums(s: Sums, img: &[u8], out: &mut [u8]) -> usize
@@ -286,7 +291,8 @@ pub fn finish(play: Play, img: &[u8], out: &mut [u8]) -> Turn
     ensures { left_by result img.now out.new ≡ leaves play img.now out.old (finished play img.now) }
 {
     if goes_on(play.ended, img.len(), out.len()) {
-        return close(play, img, out);
+        close(play, img, out)
+    } else {
+        quiet(play)
     }
-    quiet(play)
 }

@@ -26,6 +26,7 @@ pub struct Sent<'a> {
 }
 
 // No tag seen yet.
+// It stands beside walk, and so does fill: they promise of any places, and walk is made of them.
 pub fn none() -> Places
     ensures { result ≡ replicate words 0 }
 {
@@ -61,6 +62,7 @@ fn note(at: &mut Places, tag: u8, start: usize, len: usize)
 }
 
 // The walk: notes the first value with each tag, marks a tag that it meets again, and tells whether the payload ends at a field's end.
+// A step that is no field ends it in two ways, so that it is a loop and no `while let`.
 pub fn fill(p: &[u8], at: &mut Places) -> bool
     ensures { Filled p.now at.old result at.new }
 {

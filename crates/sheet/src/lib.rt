@@ -12,7 +12,7 @@ use text::lines;
 // The lines of a sheet that must be there. A pause may follow them.
 pub const LINES: u32 = 14;
 
-// The values: what each spells, and 0, 0 or 2 where it is none, so that the card of a sheet is said for every text.
+// The values: what each spells, and 0 where it is none, of a flag 2, so that the card of a sheet is said for every text.
 
 pub fn curve_of(v: &[u8]) -> u8
     ensures { result ≡ curve_of v.now }

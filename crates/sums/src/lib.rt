@@ -10,6 +10,7 @@ use manual::{Outcome, Signing};
 use sent::Sent;
 
 // Whether a wallet lives, the SIGNs that made new signatures since its creation, all hashes newly signed.
+// The SIGNs of a purged wallet stay, as the definition with_none has them, so that they are no Option.
 #[derive(Clone, Copy)]
 pub struct Sums {
     pub live: bool,

@@ -24,6 +24,7 @@ struct Lent {
 }
 
 // The card's image, of which `length` bytes are there, and what is lent.
+// A room and its length: nothing here takes memory.
 #[derive(Drop)]
 struct Table {
     room: [u8; CARD_ROOM],
@@ -80,10 +81,18 @@ impl Table {
         let mut response = [print::FILL; ROOM];
         let mut next = [print::FILL; ROOM];
         // Both buffers are lent whole where there is too little of either.
-        let (n, m) = if self.lent.response <= ROOM && self.lent.next <= ROOM {
-            (self.lent.response, self.lent.next)
+        let Lent {
+            response: n,
+            next: m,
+            ..
+        } = if self.lent.response.max(self.lent.next) <= ROOM {
+            self.lent
         } else {
-            (ROOM, ROOM)
+            Lent {
+                response: ROOM,
+                next: ROOM,
+                ..self.lent
+            }
         };
         let o = practice::settle(
             self.image(),

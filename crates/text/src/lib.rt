@@ -26,6 +26,7 @@ fn is_hex_digit(b: u8) -> bool
 }
 
 // Whether every byte is a capital hex digit.
+// A loop of its own, as is_digits: `all` is a function of std, into which `computed` cannot look.
 pub fn is_hex(s: &[u8]) -> bool
     ensures { result ≡ is_hex s.now }
 {

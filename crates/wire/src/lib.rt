@@ -5,12 +5,14 @@ ghost use Rattle.std.specs.Prelude.{◌≡◌, ◌&&◌, ◌||◌, not, ◌++◌
 ghost use Rattle.wire.specs.Wire.{part, put, room, Wrote, pad, num16, num32, be1, be2, be4, alike, all_zero};
 
 // The byte at `at`, 0 past the end.
+// By a place that is counted; get8 takes one of 32 bits, so that a sum of places cannot overflow.
 fn byte_at(s: &[u8], at: usize) -> u8
     ensures { result ≡ get_or s.now at 0 }
 {
     if at < s.len() { s[at] } else { 0 }
 }
 
+// A number, a function for each width, as in put8 to put32: a trait over the width has an impl for each, which is these again.
 pub fn get8(s: &[u8], at: u32) -> u8
     ensures { result ≡ get_or s.now at 0 }
 {

@@ -8,6 +8,7 @@ ghost use Rattle.card.specs.Image.{enc_codes, enc_flags, enc_wallet, enc_key, en
 use crate::whole;
 use card::{Block, Codes, Counters, Flags, Key, Last, Pending, Wait, Wallet, layout};
 
+// Each asks for room and then writes: a closure for what is written would need its clauses at each call.
 pub fn codes(img: &mut [u8], pin1: &[u8], pin2: &[u8]) -> usize
     ensures { Wrote img.old codes_at
         (enc_codes (record { pin1 = pad pin_size pin1.now; pin2 = pad pin_size pin2.now }))
