@@ -1,7 +1,7 @@
 -- What the code of the play is shown by: fields that fit their buffers, what a buffer then holds, and what settle's response is. Assumes nothing.
 use Prim.Native.Nat.{ℕ, ◌≤◌, ◌<◌}
 use native.Mathlib.Omega.{arith}
-use mathlib.Core.Path.{◌≡◌, refl, sym, ap, ◌∙◌, subst}
+use mathlib.Core.Path.{◌≡◌, refl, ◌∙◌, subst}
 use mathlib.Core.List.{List, ◌++◌}
 use mathlib.Core.Bool.{true, false}
 use lib.ListN.{length, take, drop, length-append}
@@ -9,13 +9,12 @@ use lib.Seq.{take_at}
 use lib.Dec.{leb, ltb, eqb}
 use borrow.Author.Tests.{leb-true, ltb-true}
 use Rattle.wire.specs.Wire.{part, alike, Wrote, Wrotes, joined}
-use Rattle.wire.proofs.Laws.{by_cases, both_true, runs, front, filled, all_run, part_plain, part_none, part_small, length_part}
+use Rattle.wire.proofs.Laws.{by_cases, both_true, runs, front, all_run, part_plain, part_none, part_small}
 use Rattle.text.specs.Text.{unhex}
 use Rattle.text.specs.Lines.{head_to, tail_after, ended}
 use Rattle.text.proofs.Laws.{length_unhex}
 use Rattle.text.proofs.LineLaws.{head_small, tail_small}
 use Rattle.card.specs.declared.Card.{Card}
-use Rattle.card.specs.Layout.{image_size, image_room}
 use Rattle.card.specs.Valid.{is_card}
 use Rattle.manual.specs.Words.{draw_size}
 use Rattle.manual.specs.Settle.{holding, Call, Settled, Said, settled, settled_of, lent, over, untouched, roomy}
@@ -64,13 +63,6 @@ says {vs} {t} {out} {out'} {r} e w h k = subst (λ u. Says u out r out') e whole
 
 pub small_part : (s : List ℕ) (n k : ℕ) → length s ≡ k → length (part s 0 n) ≤ k
 small_part s n k e = omega (arith, part_small s 0 n)
-
--- THE IMAGE is written over whole
-pub renews :
-    (nxt : List ℕ) {v m m' : List ℕ} {r : ℕ}
-    → v ≡ part nxt 0 image_size → Wrote m 0 v m' r → length m ≡ image_size → length nxt ≡ image_room → m' ≡ take image_size nxt
-renews nxt e w h k =
-    filled (runs w) (ap length e ∙ length_part nxt 0 image_size (omega arith) ∙ sym h) ∙ e ∙ part_plain nxt 0 image_size (omega arith)
 
 -- THE RESPONSE that settle wrote is read from its buffer by its length, whatever settle said
 abbrev Read : Settled → Type 0

@@ -2,14 +2,12 @@
 // is a small struct and the card's image. A call that is lent an image of another length, or no room for a line, does nothing.
 #![tactic(auto)]
 
-ghost use Rattle.std.specs.Prelude.{◌≡◌, ◌≤◌, ◌<◌, false, not, ◌&&◌, length, eqb};
+ghost use Rattle.std.specs.Prelude.{◌≡◌, ◌≤◌, ◌<◌, false, length};
 ghost use Rattle.wire.specs.Wire.{alike};
-ghost use Rattle.card.specs.Layout.{image_size, image_room};
 ghost use Rattle.manual.specs.Words.{response_room};
 ghost use Rattle.manual.specs.Settle.{over};
-ghost use Rattle.sheet.specs.Sheet.{is_pause_line};
 ghost use Rattle.text.specs.Text.{unhex};
-ghost use Rattle.tapline.specs.Line.{request_in, longest, recorded_in};
+ghost use Rattle.tapline.specs.Line.{longest, recorded_in};
 ghost use Rattle.printing.specs.Printing.{told_as, tap_text, bad_text};
 ghost use Rattle.recording.specs.Recording.{most_taps};
 ghost use Rattle.recording.specs.Play.{last_text};
@@ -30,6 +28,9 @@ pub const LINE_ROOM: usize = 2 * manual::RESPONSE_ROOM + 256;
 // Room for what a field spells, of the longest line.
 const FIELD_ROOM: usize = tapline::LONGEST / 2;
 
+// A card's image, of which the length is known.
+type Image = [u8; layout::IMAGE_SIZE];
+
 // What lasts from line to line: the taps so far and their sums, whether the sheet had a pause, and whether the play has ended.
 // On an ended play a call has to do nothing, so that the flag is no type.
 #[derive(Clone, Copy)]
@@ -49,18 +50,12 @@ pub struct Turn {
 }
 
 // Whether an image of that length, and room of that length to print into, will do.
-// Image and room are asked of the caller, as in `practice`: both are lent to be changed.
+// The room is asked of the caller, as in `practice`: it is lent to be changed.
 #[tactic(auto, unfolding(crate::specs::Step::room_for))]
 pub fn has_place(img: usize, out: usize) -> bool
     ensures { result ≡ room_for img out }
 {
     img == layout::IMAGE_SIZE && LINE_ROOM <= out
-}
-
-fn goes_on(ended: bool, img: usize, out: usize) -> bool
-    ensures { result ≡ (not ended && room_for img out) }
-{
-    !ended && has_place(img, out)
 }
 
 // A call that prints nothing.
@@ -110,12 +105,11 @@ fn stop(play: Play, bad: u32, out: &mut [u8]) -> Turn
 }
 
 // The card goes on with the next image, or, after a refusal by number, as it was.
-fn renew(number: u8, next: &[u8], img: &mut [u8])
-    requires { (length img.old ≡ image_size) × (length next.now ≡ image_room) }
+fn renew(number: u8, next: &[u8; layout::IMAGE_ROOM], img: &mut Image)
     ensures { img.new ≡ renewed number next.now img.old }
 {
     if number == 0 {
-        wire::put_bytes(img, 0, wire::part(next, 0, layout::IMAGE_SIZE));
+        img.copy_from_slice(&next[..layout::IMAGE_SIZE]);
     }
 }
 
@@ -129,8 +123,8 @@ fn bytes_of<'a>(field: &[u8], room: &'a mut [u8]) -> &'a [u8]
 }
 
 // Settles a request with the draw and the answers of its line, and renews the image.
-fn settle(request: &[u8], l: &[u8], img: &mut [u8], response: &mut [u8]) -> Outcome
-    requires { (length l.now ≤ longest) × (length img.old ≡ image_size) }
+fn settle(request: &[u8], l: &[u8], img: &mut Image, response: &mut [u8]) -> Outcome
+    requires { length l.now ≤ longest }
     ensures { Gave (settled_in img.old request.now l.now response.old) img.old
         result response.new img.new }
 {
@@ -157,8 +151,8 @@ fn print_tap(n: u32, number: u8, response: &[u8], expected: &[u8], out: &mut [u8
 }
 
 // A tap, whose line is l.
-fn tap(play: Play, l: &[u8], img: &mut [u8], out: &mut [u8]) -> Turn
-    requires { (play.taps < most_taps) × (length l.now ≤ longest) × (length img.old ≡ image_size) × (line_room ≤ length out.old) }
+fn tap(play: Play, l: &[u8], img: &mut Image, out: &mut [u8]) -> Turn
+    requires { (play.taps < most_taps) × (length l.now ≤ longest) × (line_room ≤ length out.old) }
     ensures { left_by result img.new out.new
         ≡ wrote (tapped play.paused (played play img.old) (recorded_in l.now)) out.old }
 {
@@ -193,8 +187,8 @@ fn is_first_pause(play: Play, line: &[u8]) -> bool
 }
 
 // The sheet's pause, which the card gets behind its other values.
-fn pause(play: Play, line: &[u8], img: &mut [u8]) -> Turn
-    requires { (play.ended ≡ false) × (length img.old ≡ image_size) }
+fn pause(play: Play, line: &[u8], img: &mut Image) -> Turn
+    requires { play.ended ≡ false }
     ensures { (result ≡ record { play = (pausing play img.old line.now).play; length = 0 })
         × (img.new ≡ (pausing play img.old line.now).image) }
 {
@@ -206,8 +200,8 @@ fn pause(play: Play, line: &[u8], img: &mut [u8]) -> Turn
 }
 
 #[tactic(auto, unfolding(crate::specs::Step::started, sheet::specs::Sheet::some_line))]
-fn fresh_card(sheet: &[u8], img: &mut [u8], out: &mut [u8]) -> Turn
-    requires { (length img.old ≡ image_size) × (line_room ≤ length out.old) }
+fn fresh_card(sheet: &[u8], img: &mut Image, out: &mut [u8]) -> Turn
+    requires { line_room ≤ length out.old }
     ensures { left_by result img.new out.new ≡ wrote (started sheet.now img.old) out.old }
 {
     match sheet::first_bad(sheet) {
@@ -225,16 +219,18 @@ pub fn begin(sheet: &[u8], img: &mut [u8], out: &mut [u8]) -> Turn
     ensures { left_by result img.new out.new
         ≡ leaves (ended_at start) img.old out.old (started sheet.now img.old) }
 {
-    if has_place(img.len(), out.len()) {
-        fresh_card(sheet, img, out)
-    } else {
-        quiet(end(new_play()))
+    if out.len() < LINE_ROOM {
+        return quiet(end(new_play()));
     }
+    let Some(img) = img.as_mut_array() else {
+        return quiet(end(new_play()));
+    };
+    fresh_card(sheet, img, out)
 }
 
 #[tactic(auto, unfolding(crate::specs::Step::stepped, tapline::specs::Line::recorded), using(crate::proofs::Laws::next_tap))]
-fn play_line(play: Play, line: &[u8], img: &mut [u8], out: &mut [u8]) -> Turn
-    requires { (play.ended ≡ false) × (length img.old ≡ image_size) × (line_room ≤ length out.old) }
+fn play_line(play: Play, line: &[u8], img: &mut Image, out: &mut [u8]) -> Turn
+    requires { (play.ended ≡ false) × (line_room ≤ length out.old) }
     ensures { left_by result img.new out.new ≡ wrote (stepped play img.old line.now) out.old }
 {
     if is_first_pause(play, line) {
@@ -252,11 +248,13 @@ pub fn step(play: Play, line: &[u8], img: &mut [u8], out: &mut [u8]) -> Turn
     ensures { left_by result img.new out.new
         ≡ leaves play img.old out.old (stepped play img.old line.now) }
 {
-    if goes_on(play.ended, img.len(), out.len()) {
-        play_line(play, line, img, out)
-    } else {
-        quiet(play)
+    if play.ended || out.len() < LINE_ROOM {
+        return quiet(play);
     }
+    let Some(img) = img.as_mut_array() else {
+        return quiet(play);
+    };
+    play_line(play, line, img, out)
 }
 
 fn print_sums(s: Sums, img: &[u8], out: &mut [u8]) -> usize
@@ -290,9 +288,9 @@ fn close(play: Play, img: &[u8], out: &mut [u8]) -> Turn
 pub fn finish(play: Play, img: &[u8], out: &mut [u8]) -> Turn
     ensures { left_by result img.now out.new ≡ leaves play img.now out.old (finished play img.now) }
 {
-    if goes_on(play.ended, img.len(), out.len()) {
-        close(play, img, out)
-    } else {
+    if play.ended || !has_place(img.len(), out.len()) {
         quiet(play)
+    } else {
+        close(play, img, out)
     }
 }

@@ -7,4 +7,4 @@ use Rattle.recording.proofs.fresh_card.Goals as goal
 
 pub returns-in-None : goal.returns-in-None
 unfolding started some_line
-returns-in-None c = rw (filled (runs c.write.ensures.0) (c.write.ensures.1 ∙ sym c.requires.0)) (search rules)
+returns-in-None c = rw (filled (runs c.write.ensures.0) (c.write.ensures.1 ∙ sym c.told-img)) (search rules)

@@ -8,4 +8,4 @@ use Rattle.recording.proofs.pause.Goals as goal
 
 pub returns : goal.returns
 returns c = let m = c.args.img.now in
-    (rw c.requires.0 at c.quiet.ensures, (runs c.pause.ensures (omega (arith, c.requires.1))).bytes ∙ ap (λ (n : ℕ). put m pause_at (be1 n)) c.pause_in.ensures)
+    (rw c.requires at c.quiet.ensures, (runs c.pause.ensures (omega (arith, c.told-img))).bytes ∙ ap (λ (n : ℕ). put m pause_at (be1 n)) c.pause_in.ensures)

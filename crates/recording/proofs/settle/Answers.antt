@@ -8,10 +8,10 @@ use Rattle.recording.proofs.Laws.{draw_fits, answers_fits}
 use Rattle.recording.proofs.settle.Goals as goal
 
 pub bytes_of-draw-requires : goal.bytes_of-draw-requires
-bytes_of-draw-requires c = rw c.draw.ensures (draw_fits c.args.l.now c.requires.0)
+bytes_of-draw-requires c = rw c.draw.ensures (draw_fits c.args.l.now c.requires)
 
 pub bytes_of-answers-requires : goal.bytes_of-answers-requires
-bytes_of-answers-requires c = rw c.answers.ensures (answers_fits c.args.l.now c.requires.0)
+bytes_of-answers-requires c = rw c.answers.ensures (answers_fits c.args.l.now c.requires)
 
 pub returns : goal.returns
 returns c = let x = c.args in

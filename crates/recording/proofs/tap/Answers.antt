@@ -20,7 +20,7 @@ pub bytes_of-request-requires : goal.bytes_of-request-requires
 bytes_of-request-requires c = rw c.request.ensures (request_fits c.args.l.now c.requires.1)
 
 pub print_tap-length-requires : goal.print_tap-length-requires
-print_tap-length-requires c = (rw c.part-said.ensures (small_part _ _ response_room (search rules)), c.requires.3)
+print_tap-length-requires c = (rw c.part-said.ensures (small_part _ _ response_room (search rules)), c.requires.2)
 
 pub returns : goal.returns
 returns c = let y = c.args in
