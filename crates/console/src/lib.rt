@@ -1,8 +1,10 @@
 // What the programs share of reading, lines, printing and failing, over std's traits. No function here takes memory.
 #![tactic(auto)]
 
-ghost use Rattle.std.specs.Prelude.{◌≤◌, length, take};
+ghost use Rattle.std.specs.Prelude.{◌≡◌, ◌≤◌, length, take};
 ghost use Rattle.std.specs.Io.KnownBytes.{Consumes};
+ghost use Rattle.wire.specs.Wire.{part, fit, placed};
+ghost use Rattle.text.specs.Text.{unhex};
 
 use std::fmt::Display;
 use std::io;
@@ -88,7 +90,9 @@ pub fn each_line_of<F: FnMut(&[u8])>(text: &[u8], mut run: F)
 }
 
 // The lines of a text that have their line feed.
-pub fn ended(text: &[u8]) -> &[u8] {
+pub fn ended(text: &[u8]) -> &[u8]
+    ensures { result.now ≡ take (length result.now) text.now }
+{
     match text.iter().rposition(|b| *b == lines::LINE_FEED) {
         Some(last) => &text[..last + 1],
         None => &[],
@@ -96,7 +100,9 @@ pub fn ended(text: &[u8]) -> &[u8] {
 }
 
 // The bytes that capital hex digits spell, in the room that is lent; none where it is too small.
-pub fn unhex<'a>(digits: &[u8], room: &'a mut [u8]) -> &'a [u8] {
+pub fn unhex<'a>(digits: &[u8], room: &'a mut [u8]) -> &'a [u8]
+    ensures { result.now ≡ part (fit room.old 0 (unhex digits.now)) 0 (placed room.old 0 (unhex digits.now)) }
+{
     let n = text::unhex(digits, room, 0);
     wire::part(room, 0, n)
 }
