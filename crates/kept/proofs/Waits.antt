@@ -2,11 +2,11 @@
 use Rattle.std.proofs.Common.{rules}
 use Prim.Native.Nat.{ℕ, ◌≤◌}
 use native.Mathlib.Omega.{arith}
-use mathlib.Core.Path.{◌≡◌, refl, ap, ◌∙◌}
+use mathlib.Core.Path.{◌≡◌, refl, sym, ap, ◌∙◌}
 use mathlib.Core.Bool.{Bool, true, false, ◌&&◌, ◌||◌}
 use mathlib.Core.List.{List}
 use mathlib.Core.Logic.{◌⊎◌, inl, inr}
-use lib.ListN.{length}
+use lib.ListN.{length, replicate}
 use lib.Dec.{leb, eqb, ltb, lit≤}
 use borrow.Author.Tests.{le-leb, leb-true, eqb-true, ltb-true}
 use Rattle.wire.specs.Wire.{all_zero}
@@ -16,10 +16,11 @@ use Rattle.card.specs.declared.Wait.{Wait}
 use Rattle.card.specs.declared.Pending.{Pending}
 use Rattle.card.specs.declared.Face.{Face}
 use Rattle.card.specs.Layout.{least_held, held_room, most_pause, most_wrong, most_left}
-use Rattle.card.specs.Values.{u16, no_wait, dropped, counted, held_for, held_request, idle, no_pending, with_pending}
+use Rattle.card.specs.Values.{u16, no_wait, dropped, counted, held_for, held_request, idle, no_pending, with_pause, with_pending}
 use Rattle.card.specs.Image.{decode}
-use Rattle.card.specs.Valid.{is_holding, is_idle, ok_pending, ok_face, is_card}
+use Rattle.card.specs.Valid.{is_holding, is_idle, ok_ranges, ok_pending, ok_face, is_card}
 use Rattle.kept.proofs.Tests.{or_true, waited, is_waited, valid, is_valid}
+use Rattle.kept.proofs.Kept.{zeros}
 use Rattle.cards.proofs.Round.{is_card_face}
 
 -- NOTHING HELD, with the count as it was or with one more; nothing counted
@@ -106,10 +107,55 @@ module _ (p : Pending) (ok : ok_pending p ≡ true) where
       go (inl x) = omega arith
       go (inr x) = x.few
 
--- A FACE with another wait
+  -- the size tells which
+  pub size_some : 1 ≤ p.wait.size → Holding p.wait
+  size_some h = go rests_or_holds
+    where
+      go : Resting p.wait ⊎ Holding p.wait → Holding p.wait
+      go (inl x) = absurd (omega arith)
+      go (inr x) = x
+
+  pub size_none : p.wait.size ≡ 0 → p.wait.left ≡ 0
+  size_none e = go rests_or_holds
+    where
+      go : Resting p.wait ⊎ Holding p.wait → p.wait.left ≡ 0
+      go (inl x) = x.left
+      go (inr x) = absurd (omega (arith, x.least))
+
+  -- then the room is zero, and to drop what is held changes nothing
+  pub rests_idle : length p.request ≡ held_room → p.wait.size ≡ 0 → p ≡ idle p.wait
+  rests_idle long e =
+      let zero : all_zero p.request ≡ true = rw e at (waited p ok).room in
+      λ i. record { wait = p.wait; request = (zeros p.request zero ∙ ap (λ n. replicate n 0) long) i }
+
+  pub rests_dropped : length p.request ≡ held_room → p.wait.size ≡ 0 → idle (dropped p.wait) ≡ p
+  rests_dropped long e =
+      let l = size_none e in
+      sym (rests_idle long e ∙ (λ i. idle (record { wrong = p.wait.wrong; left = l i; size = e i })))
+
+-- A FACE with another wait, or with a pause: a recording tells the pause behind the card
 module _ (f : Face) (ok : ok_face f ≡ true) where
   pub keeps_pending : (p : Pending) → ok_pending p ≡ true → ok_face (with_pending p f) ≡ true
   keeps_pending p e = let v = valid f ok in is_valid (with_pending p f) (search rules)
+
+  pub keeps_pause : (n : ℕ) → n ≤ most_pause → ok_face (with_pause n f) ≡ true
+  unfolding ok_ranges
+  keeps_pause n h =
+      let v = valid f ok in
+      is_valid (with_pause n f)
+      (record {
+        flags = v.flags;
+        ranges = v.ranges;
+        state = v.state;
+        key = v.key;
+        pause = le-leb n most_pause h;
+        user = v.user;
+        protected = v.protected;
+        issuer = v.issuer;
+        pending = v.pending;
+        last = v.last;
+        owned = v.owned;
+      })
 
 -- THE BOUNDS of what a card waits by
 pub record Bounds (f : Face) : Type 0 where
