@@ -11,7 +11,7 @@ use borrow.Author.Tests.{ltb-true}
 use Rattle.wire.proofs.Laws.{both_true}
 use Rattle.text.specs.Lines.{start_of, from_line, ended}
 use Rattle.sheet.specs.Sheet.{Row, sheet_lines, optional, row_of, good_row}
-use Rattle.sheet.specs.Sheet.{name_in, value_in, good_line, bad_after, bad_from, belongs, is_pause_line, line_after}
+use Rattle.sheet.specs.Sheet.{name_in, value_in, good_line, bad_after, bad_from, belongs, is_pause_line, size_with, line_after}
 
 -- THE WALK over the lines that must be there
 module _ (k : ℕ) (s : List ℕ) (h : 1 ≤ k) (h' : k ≤ sheet_lines) where
@@ -54,6 +54,10 @@ sheet_over = refl
 pub after_more : (p : Bool) (n : ℕ) → line_after p (suc n) ≡ suc (line_after p n)
 unfolding line_after
 after_more p n = omega arith
+
+pub after_pause : (n : ℕ) → line_after true n ≡ suc (line_after false n)
+unfolding line_after size_with
+after_pause n = omega arith
 
 pub after_some : (p : Bool) (n : ℕ) → line_after p n ≡ 0 → ⊥
 unfolding line_after
