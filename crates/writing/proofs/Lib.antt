@@ -1,4 +1,5 @@
 pub mod Laws
 pub mod Renewed
+pub mod Left
 pub mod Promises
 pub mod Linked
