@@ -153,6 +153,9 @@ module _ (s : List ℕ) where
     unfolding after_sheet after_required size_with
     unpaused_after = ap (λ (b : Bool). drop (size_with b) (lines_of s)) e
 
+    pub unpaused_first : {l : List ℕ} {ls : List (List ℕ)} → after_required s ≡ l ∷ ls → is_pause_line l ≡ false
+    unpaused_first f = ap (λ ks. is_pause_line (first ks)) (sym f) ∙ pause_first ∙ e
+
   -- with one it is one line more
   module _ (e : has_pause s ≡ true) where
     pub paused_sheet : sheet_in s ≡ joined (take (suc sheet_lines) (lines_of s))
