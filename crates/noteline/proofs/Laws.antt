@@ -1,10 +1,10 @@
--- What the callers of `noteline` cite, and its own proofs: how long a line can be. Assumes nothing.
+-- What the callers of `noteline` cite, and its own proofs: which values fit their places, and how long a line can be. Assumes nothing.
 use Prim.Native.Nat.{ℕ, ◌+◌, ◌*◌, ◌/◌, ◌%◌, ◌≤◌, ◌<◌}
 use native.Mathlib.Omega.{arith}
 use native.Mathlib.Decide.{dec_lt}
 use mathlib.Core.Path.{◌≡◌}
-use mathlib.Core.List.{[], ◌∷◌}
-use mathlib.Core.Bool.{true, ◌&&◌}
+use mathlib.Core.List.{List, [], ◌∷◌}
+use mathlib.Core.Bool.{Bool, true, ◌&&◌}
 use lib.ListN.{length, length-append}
 use lib.Dec.{ltb}
 use borrow.Author.Tests.{ltb-true}
@@ -15,6 +15,17 @@ use Rattle.text.proofs.Laws.{decimal_small, decimal_more}
 use Rattle.notes.specs.declared.Note.{Note}
 use Rattle.notes.specs.Notes.{good_of, text_good}
 use Rattle.noteline.specs.NoteLine.{line_of}
+
+-- THE NOTE of these values, where they fit their places
+abbrev pub fitting : ℕ → ℕ → List ℕ → Bool
+fitting t n w = ltb t 256 && (ltb n 65536 && ltb (length w) 61)
+
+module _ (t n h : ℕ) (w : List ℕ) where
+  pub fits : fitting t n w ≡ true → (t < 256) × (n < 65536) × (length w < 61)
+  fits e =
+      let p = both_true (ltb t 256) (ltb n 65536 && ltb (length w) 61) e in
+      let q = both_true (ltb n 65536) (ltb (length w) 61) p.1 in
+      (ltb-true t 256 p.0, ltb-true n 65536 q.0, ltb-true (length w) 61 q.1)
 
 -- HOW MANY DIGITS a number has
 more_digits : (k m : ℕ) → ((n : ℕ) → n < m → length (decimal_of n) ≤ k) → (n : ℕ) → n < 10 * m → length (decimal_of n) ≤ k + 1
