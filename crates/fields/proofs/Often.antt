@@ -44,9 +44,14 @@ meets {t} {s} {at} {n} {m} {u} {x = x} w e i = record {
       ∙ ap (λ k. times_of (k + copies t (rest_from s x))) (sym i);
 }
 
-pub all_met : {t : ℕ} {s : List ℕ} {at n : ℕ} {st : Step} {z : Times} → Met t s at n → step_at s at ≡ st → ((u b l x : ℕ) → st ≡ Field u b l x → ⊥)
+pub all_met : {t : ℕ} {s : List ℕ} {at n : ℕ} (r : Run) {z : Times} → Met t s at n → rest_from s at ≡ r → copies t r ≡ 0 → z ≡ times_of n
+    → z ≡ times_of (copies t (rest_from s 0))
+all_met {t} {s} {at} {n} r w e o i = i ∙ sym (w.same ∙ ap (λ k. times_of (n + k)) (ap (copies t) e ∙ o) ∙ ap times_of (add-zero n))
+
+-- so it is where no field follows
+pub none_more : {t : ℕ} {s : List ℕ} {at n : ℕ} {st : Step} {z : Times} → Met t s at n → step_at s at ≡ st → ((u b l x : ℕ) → st ≡ Field u b l x → ⊥)
     → z ≡ times_of n → z ≡ times_of (copies t (rest_from s 0))
-all_met {t} {s} {at} {n} {st} w e h i = i ∙ sym (w.same ∙ ap (λ k. times_of (n + k)) (none_left st e h) ∙ ap times_of (add-zero n))
+none_more {t} {s} {at} {st = st} w e h i = all_met (rest_from s at) w refl (none_left st e h) i
   where
     none_left : (st : Step) → step_at s at ≡ st → ((u b l x : ℕ) → st ≡ Field u b l x → ⊥) → copies t (rest_from s at) ≡ 0
     none_left (Field u b l x) e h = absurd (h u b l x refl)

@@ -1,5 +1,5 @@
 use Rattle.fields.proofs.Laws.{bounds_of}
-use Rattle.fields.proofs.Often.{meets, all_met}
+use Rattle.fields.proofs.Often.{meets, none_more}
 use native.Mathlib.Omega.{arith}
 use mathlib.Core.Path.{sym, ◌∙◌}
 use Rattle.fields.proofs.stands.Goals as goal
@@ -11,4 +11,4 @@ pub loop-t-preserved : goal.loop-t-preserved
 loop-t-preserved c = meets c.loop-t.invariant (sym c.step_at.ensures ∙ c.in-Field.is) c.meet-n.ensures
 
 pub returns : goal.returns
-returns c = all_met c.loop-t.invariant (sym c.step_at.ensures) c.in_default.not-Field c.told.ensures
+returns c = none_more c.loop-t.invariant (sym c.step_at.ensures) c.in_default.not-Field c.told.ensures
