@@ -46,6 +46,12 @@ pub written_all : (l : List (Bor (List ℕ))) (i : ℕ) {o : List ℕ} {a : ℕ}
     → Wrotes o a (parts_of l) out at
 written_all l i {out = out} {at = at} h f = f out at (rw (no_part l i h) wrote_none)
 
+-- questions that follow one
+pub ask_more : (x : Question) (xs : List Question) {d : List ℕ} {at : ℕ} {d' : List ℕ} {r : ℕ} {d'' : List ℕ} {r' : ℕ} → Wrotes d at (each_asked (x ∷ [])) d' r
+    → Wrotes d' r (each_asked xs) d'' r' → Wrotes d at (each_asked (x ∷ xs)) d'' r'
+unfolding each_asked
+ask_more x xs f g = wrote_append (rw append-nil at f) g
+
 -- SIGN'S QUESTIONS from a hash on
 abbrev pub from_hash : Face → List ℕ → ℕ → List Question
 from_hash f h i = hash_questions f.front.wallet.number f.front.fixed.curve (length h / hash_size - i) (drop (i * hash_size) h)
@@ -62,10 +68,9 @@ next_hash f h i k =
 abbrev pub Unasked : (f : Face) (h : List ℕ) (i : ℕ) (out₀ out : List ℕ) (at : ℕ) → Type 0
 Unasked f h i out₀ out at = (d : List ℕ) (r : ℕ) → Wrotes out at (each_asked (from_hash f h i)) d r → Wrotes out₀ 0 (each_asked (from_hash f h 0)) d r
 
-pub ask_more : (f : Face) (h : List ℕ) (i : ℕ) {out₀ out : List ℕ} {at : ℕ} {out' : List ℕ} {at' : ℕ} → i < length h / hash_size → Unasked f h i out₀ out at
+pub hash_more : (f : Face) (h : List ℕ) (i : ℕ) {out₀ out : List ℕ} {at : ℕ} {out' : List ℕ} {at' : ℕ} → i < length h / hash_size → Unasked f h i out₀ out at
     → Wrotes out at (each_asked (of_wallet SignHash f (take hash_size (drop (i * hash_size) h) ∷ []) ∷ [])) out' at' → Unasked f h (i + 1) out₀ out' at'
-unfolding each_asked
-ask_more f h i k g w d r x = g d r (rw (next_hash f h i k) (wrote_append (rw append-nil at w) x))
+hash_more f h i k g w d r x = g d r (rw (next_hash f h i k) (ask_more _ _ w x))
 
 pub asked_all : (f : Face) (h : List ℕ) (i : ℕ) {out₀ out : List ℕ} {at : ℕ} → length h / hash_size ≤ i → Unasked f h i out₀ out at
     → Wrotes out₀ 0 (each_asked (hash_questions f.front.wallet.number f.front.fixed.curve (length h / hash_size) h)) out at

@@ -22,7 +22,7 @@ use sent::Sent;
 
 // The kinds of question, by their numbers.
 #[derive(Clone, Copy)]
-enum Kind {
+pub enum Kind {
     MakeKey = 1,
     SignHash = 2,
     SignByWallet = 3,
