@@ -43,7 +43,7 @@ same_means a b e =
 pub same_self : (a : Note) → order_of a a ≡ Equal
 same_self a = tied_itself order_total a
 
-means_same : (a b : Note) → a.tablet ≡ b.tablet → a.number ≡ b.number → order_of a b ≡ Equal
+pub means_same : (a b : Note) → a.tablet ≡ b.tablet → a.number ≡ b.number → order_of a b ≡ Equal
 unfolding order_of
 means_same a b t n = ap₂ (λ (x y : ℕ). ordering_then (nat_cmp a.tablet x) (nat_cmp a.number y)) (sym t) (sym n) ∙ same_self a
 

@@ -119,7 +119,7 @@ none_bad (suc n) k y (x ∷ xs) e = go (follows y x) refl e (none_bad n (k + 1) 
     go true f q r = rw (follows_good y x f) (r q)
     go false f q r = cc
 
-book_good : (l : List Note) → first_bad l ≡ None → all_good l ≡ true
+pub book_good : (l : List Note) → first_bad l ≡ None → all_good l ≡ true
 unfolding first_bad
 book_good l e = none_bad 256 1 blank l e
 
