@@ -107,8 +107,11 @@ pub fn unhex<'a>(digits: &[u8], room: &'a mut [u8]) -> &'a [u8]
     wire::part(room, 0, n)
 }
 
-// Prints bytes as they are.
+// Prints bytes as they are. Of none nothing is called: a program that prints what each byte of its input gives has mostly none.
 pub fn print<P: Print>(to: &P, bytes: &[u8]) -> Result<(), Failure> {
+    if bytes.is_empty() {
+        return Ok(());
+    }
     to.write_all(bytes).map_err(Failure::Output)
 }
 
@@ -122,8 +125,8 @@ pub fn say_number<P: Print>(to: &P, n: usize) {
     let _ = to.print(n);
 }
 
-// How many bytes are spelt at a time.
-const HEX_ROOM: usize = 4096;
+// How many bytes are spelt at a time: the digits take room of a stack that a program may have used for its own.
+const HEX_ROOM: usize = 512;
 
 // The same of bytes in capital hex.
 pub fn say_hex<P: Print>(to: &P, bytes: &[u8]) {
