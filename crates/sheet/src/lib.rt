@@ -2,9 +2,10 @@
 // sheet ends.
 #![tactic(auto, unfolding(crate::specs::Sheet::curve_of, crate::specs::Sheet::count_of, crate::specs::Sheet::max_of, crate::specs::Sheet::flag_of, crate::specs::Sheet::pause_of, crate::specs::Sheet::is_cvc, crate::specs::Sheet::is_curve, crate::specs::Sheet::is_max, crate::specs::Sheet::is_flag, crate::specs::Sheet::up_to, crate::specs::Sheet::is_pause, crate::specs::Sheet::no_row, crate::specs::Sheet::row_of, crate::specs::Sheet::good_row, crate::specs::Sheet::good_line, crate::specs::Sheet::is_pause_line, crate::specs::Sheet::has_pause, crate::specs::Sheet::belongs, crate::specs::Sheet::size_with, crate::specs::Sheet::line_after, crate::specs::Sheet::some_line, crate::specs::Sheet::optional, crate::specs::Sheet::bad_after, text::specs::Lines::from_line))]
 
-ghost use Rattle.std.specs.Prelude.{◌≡◌, suc};
+ghost use Rattle.std.specs.Prelude.{◌≡◌, ◌≤◌, cond, ltb, suc};
 ghost use Rattle.sheet.specs.Sheet.{is_hex_of, is_cvc, curve_of, is_curve, count_of, max_of, is_max, flag_of, is_flag, pause_of, is_pause};
-ghost use Rattle.sheet.specs.Sheet.{sheet_lines, row_of, name_in, value_in, good_row, good_line, bad_after, optional, some_line, first_bad, belongs, is_pause_line, has_pause, line_after};
+ghost use Rattle.sheet.specs.Sheet.{sheet_lines, row_of, value_in, good_row, good_line, bad_after, optional, some_line, first_bad, belongs, is_pause_line, has_pause, line_after};
+ghost use Rattle.text.specs.Lines.{start_of};
 
 use card::Fixed;
 use text::lines;
@@ -122,39 +123,39 @@ fn good_row(line: u32, name: &[u8], value: &[u8]) -> bool
     }
 }
 
-// The name of the line that the text begins with, and its value.
-
-fn name_in(s: &[u8]) -> &[u8]
-    ensures { result.now ≡ name_in s.now }
-{
-    lines::head_to(lines::head_to(s, lines::LINE_FEED), lines::TAB)
-}
-
-fn value_in(s: &[u8]) -> &[u8]
-    ensures { result.now ≡ value_in s.now }
-{
-    lines::tail_after(lines::head_to(s, lines::LINE_FEED), lines::TAB)
-}
-
-// Whether the text begins with a good line of that number.
+// Whether the text begins with a good line of that number. Its end is looked for twice, and not for each part: a line may be as long as
+// the text.
 fn good_line(line: u32, s: &[u8]) -> bool
     ensures { result ≡ good_line (row_of line) s.now }
 {
-    lines::is_ended(s) && good_row(line, name_in(s), value_in(s))
+    if !lines::is_ended(s) {
+        return false;
+    }
+    let all = lines::head_to(s, lines::LINE_FEED);
+    good_row(
+        line,
+        lines::head_to(all, lines::TAB),
+        lines::tail_after(all, lines::TAB),
+    )
 }
 
 // Whether the text begins with a good pause line.
 pub fn is_pause_line(s: &[u8]) -> bool
     ensures { result ≡ is_pause_line s.now }
 {
-    lines::is_ended(s) && wire::equal(name_in(s), b"pause") && is_pause(value_in(s))
+    if !lines::is_ended(s) {
+        return false;
+    }
+    let all = lines::head_to(s, lines::LINE_FEED);
+    wire::equal(lines::head_to(all, lines::TAB), b"pause")
+        && is_pause(lines::tail_after(all, lines::TAB))
 }
 
 // The pause of a line that begins with one.
 pub fn pause_in(s: &[u8]) -> u8
     ensures { result ≡ pause_of (value_in s.now) }
 {
-    pause_of(value_in(s))
+    pause_of(lines::tail_after(lines::head_to(s, lines::LINE_FEED), lines::TAB))
 }
 
 // Whether a pause stands behind the lines that must be there.
@@ -164,16 +165,23 @@ pub fn has_pause(sheet: &[u8]) -> bool
     is_pause_line(wire::rest(sheet, lines::start_of(sheet, LINES + 1)))
 }
 
-// What follows the lines that must be there: a good pause is one line more, and then no bytes may stand.
-fn after_required(sheet: &[u8]) -> Option<u32>
+// The line that begins at a place, where bytes stand there.
+fn line_at(line: u32, at: usize, size: usize) -> Option<u32>
+    requires { 1 ≤ line }
+    ensures { result ≡ some_line (cond (ltb at size) line 0) }
+{
+    if at < size { Some(line) } else { None }
+}
+
+// What follows the lines that must be there, whose end is at `at`: a good pause is one line more, and then no bytes may stand.
+fn after_required(sheet: &[u8], at: usize) -> Option<u32>
+    requires { at ≡ start_of (suc sheet_lines) sheet.now }
     ensures { result ≡ some_line (bad_after optional (suc sheet_lines) sheet.now) }
 {
-    let line = LINES + 1 + has_pause(sheet) as u32;
-    if lines::start_of(sheet, line) < sheet.len() {
-        Some(line)
-    } else {
-        None
+    if is_pause_line(wire::rest(sheet, at)) {
+        return line_at(LINES + 2, lines::next_line(sheet, at), sheet.len());
     }
+    line_at(LINES + 1, at, sheet.len())
 }
 
 // The number of the first bad line, or of the line after the last where bytes stand there; none of a good sheet. It is yielded by the
@@ -185,7 +193,7 @@ pub fn first_bad(sheet: &[u8]) -> Option<u32>
     let mut line = 1;
     loop {
         if LINES < line {
-            break after_required(sheet);
+            break after_required(sheet, at);
         }
         if !good_line(line, wire::rest(sheet, at)) {
             break Some(line);
