@@ -14,18 +14,21 @@ const ROOM: usize = 8192;
 // What the image buffer holds before.
 const FILL: u8 = 165;
 
+// How many bytes are not what the buffer held before. A sum that wraps is one that the compiler makes of many bytes at a time.
+fn changed(bytes: &[u8]) -> u32 {
+    let mut n: u32 = 0;
+    for b in bytes {
+        n = n.wrapping_add((*b != FILL) as u32);
+    }
+    n
+}
+
 fn print(rt: &impl Print, answer: u32, image: &[u8]) {
     // A bad sheet makes no image.
     let made = if answer == 0 { IMAGE_SIZE } else { 0 };
     console::say_number(rt, answer as usize);
     console::say(rt, b"\t");
-    console::say_number(
-        rt,
-        wire::rest(image, made)
-            .iter()
-            .filter(|b| **b != FILL)
-            .count(),
-    );
+    console::say_number(rt, changed(wire::rest(image, made)) as usize);
     if answer == 0 {
         console::say(rt, b"\t");
         console::say_hex(rt, wire::part(image, 0, made));
