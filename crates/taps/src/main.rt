@@ -15,6 +15,9 @@ const CARD_ROOM: usize = 4096;
 // The most bytes of a line, and of a buffer that is lent.
 const ROOM: usize = 8192;
 
+// The most bytes that a line spells: two digits each.
+const SPELT: usize = ROOM / 2;
+
 // The lengths of the buffers that are lent.
 #[derive(Clone, Copy)]
 struct Lent {
@@ -61,8 +64,8 @@ impl Table {
     }
 
     fn ask(&self, rt: &impl Print, line: &[u8]) {
-        let mut request = [0u8; ROOM];
-        let mut draw = [0u8; ROOM];
+        let mut request = [0u8; SPELT];
+        let mut draw = [0u8; SPELT];
         let mut questions = [print::FILL; ROOM];
         let n = self.lent.questions.min(ROOM);
         let o = practice::ask(
@@ -75,9 +78,9 @@ impl Table {
     }
 
     fn settle(&mut self, rt: &impl Print, line: &[u8]) {
-        let mut request = [0u8; ROOM];
-        let mut draw = [0u8; ROOM];
-        let mut answers = [0u8; ROOM];
+        let mut request = [0u8; SPELT];
+        let mut draw = [0u8; SPELT];
+        let mut answers = [0u8; SPELT];
         let mut response = [print::FILL; ROOM];
         let mut next = [print::FILL; ROOM];
         // Both buffers are lent whole where there is too little of either.

@@ -10,7 +10,8 @@ pub const FILL: u8 = 0xAA;
 // The most bytes of a line that is printed.
 const LINE_ROOM: usize = 16384;
 
-type Line = Cursor<[u8; LINE_ROOM]>;
+// A line in a room that is lent: a room by value would be copied whole at each line.
+type Line<'a> = Cursor<&'a mut [u8]>;
 
 // A line as it is.
 pub fn same(rt: &impl Print, line: &[u8]) {
@@ -18,15 +19,13 @@ pub fn same(rt: &impl Print, line: &[u8]) {
     say(rt, b"\n");
 }
 
-// A line that begins with its letter and what the call answered.
-fn begun(letter: char, o: &Outcome) -> Line {
-    let mut line = Cursor::new([0u8; LINE_ROOM]);
+// A line begins with its letter and what the call answered.
+fn begin(line: &mut Line, letter: char, o: &Outcome) {
     let _ = write!(
         line,
         "{letter}\t{}\t{}\t{:04X}\t{}",
         o.number, o.reason, o.word, o.length
     );
-    line
 }
 
 fn put_bytes(line: &mut Line, bytes: &[u8]) {
@@ -67,9 +66,9 @@ fn untouched(s: &[u8], at: usize) -> bool {
 }
 
 // Prints the line, and a line T where what was not to be written is not as it was lent.
-fn finish(rt: &impl Print, line: Line, clean: bool) {
+fn finish(rt: &impl Print, line: &Line, clean: bool) {
     let n = line.position() as usize;
-    say(rt, wire::part(&line.into_inner(), 0, n));
+    say(rt, wire::part(line.get_ref(), 0, n));
     say(rt, b"\n");
     if !clean {
         say(rt, b"T\n");
@@ -78,25 +77,31 @@ fn finish(rt: &impl Print, line: Line, clean: bool) {
 
 pub fn asked(rt: &impl Print, o: &Outcome, questions: &[u8]) {
     let n = written(o, o.length as usize);
-    let mut line = begun('A', o);
+    let mut room = [0u8; LINE_ROOM];
+    let mut line = Cursor::new(&mut room[..]);
+    begin(&mut line, 'A', o);
     put_bytes(&mut line, wire::part(questions, 0, n));
-    finish(rt, line, untouched(questions, n));
+    finish(rt, &line, untouched(questions, n));
 }
 
 pub fn settled(rt: &impl Print, o: &Outcome, old: &[u8], response: &[u8], next: &[u8]) {
-    let mut line = begun('S', o);
+    let mut room = [0u8; LINE_ROOM];
+    let mut line = Cursor::new(&mut room[..]);
+    begin(&mut line, 'S', o);
     put_bytes(&mut line, wire::part(response, 0, o.length as usize));
     put_changes(&mut line, o, old, next);
     let n = written(o, o.length as usize);
     finish(
         rt,
-        line,
+        &line,
         untouched(response, n) && untouched(next, written(o, IMAGE_SIZE)),
     );
 }
 
 pub fn powered_off(rt: &impl Print, o: &Outcome, old: &[u8], next: &[u8]) {
-    let mut line = begun('O', o);
+    let mut room = [0u8; LINE_ROOM];
+    let mut line = Cursor::new(&mut room[..]);
+    begin(&mut line, 'O', o);
     put_changes(&mut line, o, old, next);
-    finish(rt, line, untouched(next, written(o, IMAGE_SIZE)));
+    finish(rt, &line, untouched(next, written(o, IMAGE_SIZE)));
 }
