@@ -19,6 +19,14 @@ gate_append : {A : Type 0} (xs ys : List Rule) (g : Result A Refusal) → gate_o
 gate_append [] ys g = refl
 gate_append (r ∷ xs) ys g = ap (λ z. cond r.ok z (stop r.check r.word)) (gate_append xs ys g)
 
+-- a check by its outcome: one that holds leaves the judgement to the next, one that failed is the judgement
+module _ {A : Type 0} where
+  pub goes_on_lem : (b : Bool) {r : Bool} {x y : A} (s : A) → r ≡ true → r ≡ b → x ≡ y → x ≡ cond b y s
+  goes_on_lem b s p q e = e ∙ sym (rw (sym q ∙ p) refl)
+
+  pub ends : (b : Bool) {r : Bool} (y : A) {s : A} → r ≡ false → r ≡ b → s ≡ cond b y s
+  ends b y p q = sym (rw (sym q ∙ p) refl)
+
 -- CHECKS THAT HAND NOTHING OVER say all: what they refuse is refused, and where they hold something else is handed over
 module _ {A B : Type 0} where
   abbrev pub after : Result A Refusal → Result B Refusal → Result B Refusal
@@ -26,20 +34,16 @@ module _ {A B : Type 0} where
   after (Err e) g = Err e
 
   one_after : (t : Bool) (x : Result A Refusal) (y g : Result B Refusal) (e : Refusal) → y ≡ after x g → cond t y (Err e) ≡ after (cond t x (Err e)) g
-  one_after true x y g e h = h
-  one_after false x y g e h = refl
+  one_after t x y g e h = by t refl
+    where
+      by : (r : Bool) → r ≡ t → cond t y (Err e) ≡ after (cond t x (Err e)) g
+      by true i = sym (goes_on_lem t (Err e) refl i refl) ∙ h ∙ ap (λ z. after z g) (goes_on_lem t (Err e) refl i refl)
+      by false i = sym (ends t y refl i) ∙ ap (λ z. after z g) (ends t x refl i)
 
   gate_after : (xs : List Rule) (a : A) (g : Result B Refusal) → gate_of xs g ≡ after (gate_of xs (Ok a)) g
   gate_after [] a g = refl
   gate_after (r ∷ xs) a g =
       one_after r.ok (gate_of xs (Ok a)) (gate_of xs g) g (record { check = r.check; word = r.word }) (gate_after xs a g)
-
--- a check by its outcome: one that holds leaves the judgement to the next, one that failed is the judgement
-pub goes_on_lem : (b : Bool) {r : Bool} {x y : Verdict} (s : Verdict) → r ≡ true → r ≡ b → x ≡ y → x ≡ cond b y s
-goes_on_lem b s p q e = e ∙ sym (rw (sym q ∙ p) refl)
-
-pub ends : (b : Bool) {r : Bool} (y : Verdict) {s : Verdict} → r ≡ false → r ≡ b → s ≡ cond b y s
-ends b y p q = sym (rw (sym q ∙ p) refl)
 
 -- what passed: every check of the list holds
 abbrev Every : List Rule → Type 0
