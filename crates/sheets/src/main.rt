@@ -8,7 +8,7 @@ use text::lines;
 // The most bytes of a sheet that are looked at.
 const SHEET_ROOM: usize = 4096;
 
-// The most bytes of an image buffer.
+// The most bytes of an image buffer, and of a line that is printed.
 const ROOM: usize = 8192;
 
 // What the image buffer holds before.
@@ -23,16 +23,23 @@ fn changed(bytes: &[u8]) -> u32 {
     n
 }
 
-fn print(rt: &impl Print, answer: u32, image: &[u8]) {
-    // A bad sheet makes no image.
+// The answer, how many bytes changed beyond the image, and the image. A bad sheet makes none.
+fn put_answer(line: &mut [u8], answer: u32, image: &[u8]) -> usize {
     let made = if answer == 0 { IMAGE_SIZE } else { 0 };
-    console::say_number(rt, answer as usize);
-    console::say(rt, b"\t");
-    console::say_number(rt, changed(wire::rest(image, made)) as usize);
-    if answer == 0 {
-        console::say(rt, b"\t");
-        console::say_hex(rt, wire::part(image, 0, made));
+    let a = text::put_decimal_then(line, 0, answer, lines::TAB);
+    let b = text::put_decimal(line, a, changed(wire::rest(image, made)));
+    if answer != 0 {
+        return b;
     }
+    let c = wire::put8(line, b, lines::TAB);
+    text::put_hex(line, c, wire::part(image, 0, made))
+}
+
+// A line is written at once: what is printed goes to the system as it is.
+fn print(rt: &impl Print, answer: u32, image: &[u8]) {
+    let mut line = [0u8; ROOM];
+    let n = put_answer(&mut line, answer, image);
+    console::say(rt, wire::part(&line, 0, n));
     console::say(rt, b"\n");
 }
 
